@@ -346,6 +346,7 @@ pub fn check_script<'a>(lines: impl Iterator<Item = &'a str>) -> Result<Checked,
     let mut yard: Option<CheckedYard> = None;
     let mut output = Vec::new();
     let mut count = 0;
+    let mut unreadable = 0;
     for (index, line) in lines.enumerate() {
         count = index + 1;
         let events = match (reader.read(line), &mut yard) {
@@ -358,6 +359,7 @@ pub fn check_script<'a>(lines: impl Iterator<Item = &'a str>) -> Result<Checked,
                 yard.play(command).map_err(|wrong| format!("line {count}: {line}: {wrong}"))?
             }
             (Line::Command(_), None) | (Line::Unreadable, _) => {
+                unreadable += 1;
                 vec![Event::Refused(Refusal::Invalid)]
             }
         };
@@ -369,6 +371,7 @@ pub fn check_script<'a>(lines: impl Iterator<Item = &'a str>) -> Result<Checked,
         yard.finish().map_err(|wrong| format!("after line {count}, at the end: {wrong}"))?;
     }
     statistics.lines = count;
+    statistics.refused_lines[usize::from(Refusal::Invalid.number())] += unreadable;
     Ok(Checked { output, statistics })
 }
 

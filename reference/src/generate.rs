@@ -39,7 +39,14 @@ struct Style {
     heedless: usize,
     /// Of a hundred frees, how many are of engines that weren't told to.
     impatient: usize,
+    /// Of a thousand lines without a plan, before how many a ring of several engines is planned.
+    planning: usize,
+    /// Of a hundred takes, how many are of the engine's own section first and the next one's then.
+    circular: usize,
 }
+
+/// With more messages on their way than this, a second waits.
+const CROWDED: usize = 24;
 
 /// Messages arrive, mostly in order, and engines hold and want: rings come often.
 const RINGS: Style = Style {
@@ -49,7 +56,9 @@ const RINGS: Style = Style {
     arrival: Arrival::Oldest,
     lost: 2,
     heedless: 3,
-    impatient: 10,
+    impatient: 6,
+    planning: 25,
+    circular: 70,
 };
 
 /// Messages overtake each other.
@@ -60,7 +69,9 @@ const LATE: Style = Style {
     arrival: Arrival::Any,
     lost: 10,
     heedless: 5,
-    impatient: 25,
+    impatient: 15,
+    planning: 15,
+    circular: 60,
 };
 
 /// The newest first, and boxes stop often.
@@ -71,7 +82,9 @@ const STOPS: Style = Style {
     arrival: Arrival::Newest,
     lost: 5,
     heedless: 4,
-    impatient: 20,
+    impatient: 15,
+    planning: 15,
+    circular: 60,
 };
 
 /// Anything at any time.
@@ -82,7 +95,9 @@ const CHAOS: Style = Style {
     arrival: Arrival::Any,
     lost: 30,
     heedless: 40,
-    impatient: 50,
+    impatient: 40,
+    planning: 5,
+    circular: 30,
 };
 
 /// The kinds of line that a script has.
@@ -123,15 +138,25 @@ impl Weights {
     }
 }
 
+/// A step towards a ring that the generator has in mind.
+#[derive(Clone, Copy, Debug)]
+enum Planned {
+    Take(Engine, Section),
+    /// Deliver until nothing is on its way.
+    Settle,
+}
+
 /// Makes one script.
 struct Generator {
     random: Random,
     style: Style,
     yard: Yard,
-    /// The few sections that the engines of this script contend for.
+    /// The few sections that the engines of this script contend for, one for each engine.
     contended: Vec<Section>,
     /// Numbers of the messages that are on their way.
     due: Vec<usize>,
+    /// What comes next, the last first.
+    planned: Vec<Planned>,
 }
 
 /// A script of that many lines, the last of which is `show`.
@@ -159,26 +184,82 @@ impl Generator {
     fn new(mut random: Random, size: YardSize) -> Generator {
         let styles = [RINGS, RINGS, LATE, STOPS, CHAOS];
         let style = styles[random.below(styles.len())];
-        let count = random.between(2, size.engine_count() + 1);
-        let contended = (0..count).map(|_| random_section(&mut random, size, 2)).collect();
-        Generator { random, style, yard: Yard::new(size), contended, due: Vec::new() }
+        let places = random.between(2, 12);
+        let contended = size.engines().map(|_| random_section(&mut random, size, places)).collect();
+        Generator { random, style, yard: Yard::new(size), contended, due: Vec::new(), planned: Vec::new() }
     }
 
     fn line(&mut self) -> String {
+        let command = match self.planned_command() {
+            Some(command) => command,
+            None => match self.random_command() {
+                Some(command) => command,
+                None => return self.bad_line(),
+            },
+        };
+        self.play(command);
+        command_line(command)
+    }
+
+    /// The next step of the plan, if there is one and nothing comes between.
+    fn planned_command(&mut self) -> Option<Command> {
+        if self.planned.is_empty() && self.random.below(1000) < self.style.planning {
+            self.plan_ring();
+        }
+        if self.random.chance(10) {
+            return None;
+        }
+        match *self.planned.last()? {
+            Planned::Take(engine, section) => {
+                self.planned.pop();
+                Some(Command::Take(engine, section))
+            }
+            Planned::Settle => {
+                let delivery = self.deliver_due();
+                if self.due.is_empty() {
+                    self.planned.pop();
+                }
+                delivery
+            }
+        }
+    }
+
+    /// Some engines are to take a section each, and then each the next one's.
+    fn plan_ring(&mut self) {
+        let mut engines = self.engines_that(may_take);
+        let places = usize::from(PLACES);
+        while engines.len() > 2 && self.random.chance(30) {
+            engines.remove(self.random.below(engines.len()));
+        }
+        for index in (1..engines.len()).rev() {
+            engines.swap(index, self.random.below(index + 1));
+        }
+        let size = self.yard.size();
+        let sections: Vec<Section> =
+            engines.iter().map(|_| random_section(&mut self.random, size, places)).collect();
+        let take = |(engine, section): (&Engine, &Section)| Planned::Take(*engine, *section);
+        let nexts = sections.iter().cycle().skip(1);
+        self.planned.push(Planned::Settle);
+        self.planned.extend(engines.iter().zip(nexts).map(take));
+        self.planned.push(Planned::Settle);
+        self.planned.extend(engines.iter().zip(&sections).map(take));
+    }
+
+    /// A command by the style's weights; `None` for a bad line.
+    fn random_command(&mut self) -> Option<Command> {
         let command = match self.style.weights.pick(&mut self.random) {
             Kind::Take => self.take(),
             Kind::Free => self.free(),
             Kind::DeliverDue => self.deliver_due(),
             Kind::DeliverAgain => self.any_message().map(Command::Deliver),
             Kind::Cut => self.cut(),
-            Kind::Second => Some(Command::Second(self.any_box())),
+            Kind::Second => self.second(),
             Kind::Stop => Some(Command::Stop(self.any_box())),
             Kind::Show => Some(Command::Show),
-            Kind::Bad => return self.bad_line(),
+            Kind::Bad => return None,
         };
-        let command = command.unwrap_or_else(|| Command::Second(self.any_box()));
-        self.play(command);
-        command_line(command)
+        let command = command.or_else(|| self.deliver_due());
+        Some(command.unwrap_or_else(|| Command::Second(self.any_box())))
     }
 
     fn play(&mut self, command: Command) {
@@ -211,27 +292,48 @@ impl Generator {
         self.contended[self.random.below(self.contended.len())]
     }
 
-    /// An engine of which that is so, if there is one.
-    fn engine_that(&mut self, is_so: impl Fn(&EngineState) -> bool) -> Option<Engine> {
-        let size = self.yard.size();
+    /// A second, unless much is still on its way.
+    fn second(&mut self) -> Option<Command> {
+        let wanted = self.due.len() < CROWDED || self.random.chance(10);
+        wanted.then(|| Command::Second(self.any_box()))
+    }
+
+    /// The engines of which that is so.
+    fn engines_that(&self, is_so: impl Fn(&EngineState) -> bool) -> Vec<Engine> {
         let fits = |engine: &Engine| {
             let state = self.yard.home_of(*engine).home().engine(*engine);
             state.is_some_and(&is_so)
         };
-        let engines: Vec<Engine> = size.engines().filter(fits).collect();
-        self.random.pick(&engines).copied()
+        self.yard.size().engines().filter(fits).collect()
     }
 
     fn take(&mut self) -> Option<Command> {
-        let section = self.contended_section();
         if self.random.chance(self.style.heedless) {
-            return Some(Command::Take(self.any_engine(), section));
+            return Some(Command::Take(self.any_engine(), self.contended_section()));
         }
-        let may_take = |state: &EngineState| {
-            let busy = state.open_call().is_some() || state.wait().is_some();
-            !busy && !state.is_giving_back() && !state.holds(section)
-        };
-        self.engine_that(may_take).map(|engine| Command::Take(engine, section))
+        let engines = self.engines_that(may_take);
+        let engine = *self.random.pick(&engines)?;
+        if self.random.chance(self.style.circular) {
+            return self.take_in_circle(engine);
+        }
+        Some(Command::Take(engine, self.contended_section()))
+    }
+
+    /// Takes the engine's own contended section, then the next one's; with both it is done and frees one.
+    fn take_in_circle(&mut self, engine: Engine) -> Option<Command> {
+        let held = self.held(engine);
+        let next = [engine.index(), engine.index() + 1].map(|index| index % self.contended.len());
+        let wanted = next.map(|index| self.contended[index]);
+        match wanted.into_iter().find(|section| !held.contains(section)) {
+            Some(section) => Some(Command::Take(engine, section)),
+            None => self.random.pick(&held).map(|&section| Command::Free(engine, section)),
+        }
+    }
+
+    /// The sections that an engine holds, as its home knows.
+    fn held(&self, engine: Engine) -> Vec<Section> {
+        let state = self.yard.home_of(engine).home().engine(engine);
+        state.map_or(Vec::new(), |state| state.held().iter().collect())
     }
 
     fn free(&mut self) -> Option<Command> {
@@ -239,13 +341,12 @@ impl Generator {
             return Some(Command::Free(self.any_engine(), self.contended_section()));
         }
         let impatient = self.random.chance(self.style.impatient);
-        let may_free = |state: &EngineState| {
-            let busy = state.open_call().is_some() || state.wait().is_some();
-            !busy && !state.held().is_empty() && (impatient || state.is_giving_back())
-        };
-        let engine = self.engine_that(may_free)?;
-        let held = self.yard.home_of(engine).home().engine(engine)?.held();
-        let held: Vec<Section> = held.iter().collect();
+        let engines = self.engines_that(|state| {
+            let wanted = impatient || state.is_giving_back();
+            wanted && is_ready(state) && !state.held().is_empty()
+        });
+        let engine = *self.random.pick(&engines)?;
+        let held = self.held(engine);
         let section = *self.random.pick(&held)?;
         Some(Command::Free(engine, section))
     }
@@ -309,6 +410,15 @@ impl Generator {
         ];
         lines[self.random.below(lines.len())].clone()
     }
+}
+
+/// No call of the engine is open, and it doesn't wait.
+fn is_ready(state: &EngineState) -> bool {
+    state.open_call().is_none() && state.wait().is_none()
+}
+
+fn may_take(state: &EngineState) -> bool {
+    is_ready(state) && !state.is_giving_back()
 }
 
 /// A section of any box, at one of the first places.

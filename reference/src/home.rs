@@ -29,10 +29,11 @@ impl SectionSet {
 
     /// The sections by box and place.
     pub fn iter(&self) -> impl Iterator<Item = Section> + '_ {
-        let all = (0..MAX_BOXES).flat_map(|owner| {
-            (0..PLACES).map(move |place| Section { owner: BoxNumber(owner), place })
-        });
-        all.filter(|&section| self.contains(section))
+        let owners = (0..MAX_BOXES).zip(self.places).filter(|(_, places)| *places != 0);
+        owners.flat_map(|(owner, places)| {
+            let inside = (0..PLACES).filter(move |place| places >> place & 1 == 1);
+            inside.map(move |place| Section { owner: BoxNumber(owner), place })
+        })
     }
 }
 
