@@ -15,7 +15,7 @@ pub struct Scripts {
 }
 
 impl Scripts {
-    fn seeds(self) -> std::ops::Range<u64> {
+    pub fn seeds(self) -> std::ops::Range<u64> {
         self.first_seed..self.first_seed + self.count
     }
 }

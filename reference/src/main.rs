@@ -1,10 +1,15 @@
 //! `reference`: plays, checks, generates and compares scripts.
 
+use reference::bench::{bench, Kind};
 use reference::check::check_script;
 use reference::compare::{compare, statistics, Scripts};
+use reference::compare_box::{compare_box, compare_cuts, Which};
 use reference::generate::generate;
-use reference::numbers::YardSize;
+use reference::numbers::{YardSize, MAX_BOXES};
+use reference::program::{self, Grouping};
+use reference::replay::replay_lines;
 use reference::script::{parse_number, Player};
+use std::fs;
 use std::io::{self, BufRead, BufWriter, Read, Write};
 use std::process::ExitCode;
 
@@ -13,7 +18,16 @@ const USAGE: &str = "usage:
   reference check < SCRIPT                         plays and checks it
   reference generate SEED LINES [BOXES ENGINES]    prints a script
   reference stats N [FIRST_SEED] [LINES]           checks N scripts and says what happened in them
-  reference compare PROGRAM N [FIRST_SEED] [LINES] compares PROGRAM with this on N scripts";
+  reference compare PROGRAM N [FIRST_SEED] [LINES] compares PROGRAM with this on N scripts
+  reference replay FILE NUMBER ENGINES BOXES       shows what a box's file stands for
+  reference box NUMBER ENGINES [BOXES]             runs a box, its file in this folder
+  reference box-single NUMBER ENGINES [BOXES]      the same with a sync for each line
+  reference compare-box PROGRAM N [FIRST_SEED] [LINES]
+                                                   compares PROGRAM with this as a box
+  reference compare-cuts PROGRAM FILE NUMBER ENGINES BOXES
+                                                   the same on FILE cut and changed at every byte
+  reference bench-handle KIND N                    handles one message N times; KIND is call, repeat,
+                                                   which, change, waits, heard or second";
 
 /// Lines of a generated script, where it isn't said.
 const LINES: usize = 400;
@@ -46,12 +60,55 @@ fn run(words: &[&str]) -> Done {
         ["compare", program, count, ref rest @ ..] => {
             print_lines(vec![compare(program, scripts(count, rest)?)?])
         }
+        ["replay", file, ref which @ ..] => replay(file, which),
+        ["box", ref which @ ..] => run_box(which, Grouping::Together),
+        ["box-single", ref which @ ..] => run_box(which, Grouping::Single),
+        ["compare-box", program, count, ref rest @ ..] => {
+            print_lines(vec![compare_box(program, scripts(count, rest)?)?])
+        }
+        ["compare-cuts", program, file, ref which @ ..] => {
+            print_lines(vec![compare_cuts(program, parse_which(which)?, &read_file(file)?)?])
+        }
+        ["bench-handle", kind, times] => {
+            let kind = Kind::from_word(kind).ok_or(USAGE)?;
+            let (records, said) = bench(kind, number(times)?);
+            print_lines(vec![format!("{records} records, {said} said")])
+        }
         _ => Err(USAGE.to_string()),
     }
 }
 
 fn number<T: std::str::FromStr>(text: &str) -> Result<T, String> {
     parse_number(text).ok_or(USAGE.to_string())
+}
+
+/// `NUMBER ENGINES [BOXES]`.
+fn parse_which(words: &[&str]) -> Result<Which, String> {
+    let (box_number, engines, boxes) = match *words {
+        [box_number, engines] => (box_number, engines, MAX_BOXES),
+        [box_number, engines, boxes] => (box_number, engines, number(boxes)?),
+        _ => return Err(USAGE.to_string()),
+    };
+    let size = YardSize::new(boxes, number(engines)?).ok_or(USAGE)?;
+    let number = size.box_number(number(box_number)?).ok_or(USAGE)?;
+    Ok(Which { number, size })
+}
+
+fn read_file(path: &str) -> Result<Vec<u8>, String> {
+    fs::read(path).map_err(|error| format!("{path}: {error}"))
+}
+
+fn replay(file: &str, words: &[&str]) -> Done {
+    let Which { number, size } = parse_which(words)?;
+    print_lines(replay_lines(number, size, &read_file(file)?)?)
+}
+
+fn run_box(words: &[&str], grouping: Grouping) -> Done {
+    let Which { number, size } =
+        parse_which(words).map_err(|_| "usage: reference box NUMBER ENGINES [BOXES]")?;
+    let folder = std::env::current_dir().map_err(|error| error.to_string())?;
+    let (input, output) = (io::stdin().lock(), io::stdout().lock());
+    program::run(number, size, &folder, grouping, input, output).map_err(|fault| fault.to_string())
 }
 
 /// `N [FIRST_SEED] [LINES]`.

@@ -206,3 +206,156 @@ impl SignalBox {
         Ok(())
     }
 }
+
+#[cfg(test)]
+mod tests {
+    use super::*;
+    use crate::codec::{Answer, Beginning, CallKind, Change, Sign};
+    use crate::effects::Said;
+    use crate::random::Random;
+
+    fn size() -> YardSize {
+        YardSize::new(3, 5).unwrap()
+    }
+
+    fn random_section(random: &mut Random) -> Section {
+        Section { owner: BoxNumber(random.below(3) as u8), place: random.below(2) as u8 }
+    }
+
+    fn random_verdict(random: &mut Random) -> Verdict {
+        match random.below(5) {
+            0 => Verdict::Refused(Refusal::Waiting),
+            1 => Verdict::Refused(Refusal::Possession),
+            2 => Verdict::Refused(Refusal::Limit),
+            3 => Verdict::Done,
+            _ => Verdict::Waits,
+        }
+    }
+
+    /// Any message at all, forged ones too, with numbers that are often the right ones.
+    fn random_message(random: &mut Random) -> Message {
+        let engine = Engine(random.below(5) as u8);
+        let other = Engine(random.below(5) as u8);
+        let holder = random.chance(80).then_some(other);
+        let section = random_section(random);
+        let (number, change) = (random.below(12) as u32, random.below(6) as u32);
+        let kinds = [CallKind::Take, CallKind::Free, CallKind::GiveUp];
+        let kind = kinds[random.below(3)];
+        let verdict = random_verdict(random);
+        match random.below(6) {
+            0 => Message::Call(Call { kind, engine, section, number }),
+            1 => Message::Answer(Answer { engine, number, verdict, holder, change }),
+            2 => Message::Change(Change { section, holder, change }),
+            3 => Message::WhichChange { engine, section },
+            4 => Message::Sign(Sign { to: engine, count: change, by: other, sign: random.below(60) as u64 }),
+            _ => Message::Waits(Waits { engine, section, count: number, change }),
+        }
+    }
+
+    fn random_step(random: &mut Random, signal_box: &mut SignalBox) -> Effects {
+        let engine = Engine(random.below(5) as u8);
+        let section = random_section(random);
+        let from = BoxNumber(random.below(3) as u8);
+        let message = random_message(random).encode();
+        match random.below(10) {
+            0 => signal_box.handle(Input::Take(engine, section)),
+            1 => signal_box.handle(Input::Free(engine, section)),
+            2 => signal_box.handle(Input::Second),
+            _ => signal_box.handle(Input::Message { from, bytes: &message }),
+        }
+    }
+
+    #[test]
+    fn what_is_stored_changes_by_records_only_and_the_file_gives_it_back() {
+        let mut random = Random::new(1);
+        for _ in 0..300 {
+            let mut signal_box = SignalBox::new(BoxNumber(1), size());
+            let mut file = Vec::new();
+            for _ in 0..300 {
+                let before = signal_box.clone();
+                let effects = random_step(&mut random, &mut signal_box);
+                assert!(!effects.records.is_empty() || before.stored() == signal_box.stored());
+                effects.records.iter().for_each(|record| record.write(&mut file));
+            }
+            let opened = SignalBox::open(BoxNumber(1), size(), &file).unwrap();
+            assert_eq!(opened.signal_box.stored(), signal_box.stored());
+            assert_eq!(opened.whole, file.len());
+        }
+    }
+
+    #[test]
+    fn a_file_cut_anywhere_opens_up_to_the_last_whole_record() {
+        let mut random = Random::new(2);
+        let mut signal_box = SignalBox::new(BoxNumber(1), size());
+        let (mut file, mut ends) = (Vec::new(), vec![0]);
+        for _ in 0..300 {
+            for record in random_step(&mut random, &mut signal_box).records {
+                record.write(&mut file);
+                ends.push(file.len());
+            }
+        }
+        for length in 0..=file.len() {
+            let opened = SignalBox::open(BoxNumber(1), size(), &file[..length]).unwrap();
+            let last = ends.iter().rev().find(|&&end| end <= length);
+            assert_eq!(Some(&opened.whole), last);
+        }
+    }
+
+    fn file_of(records: &[Record]) -> Vec<u8> {
+        let mut file = Vec::new();
+        records.iter().for_each(|record| record.write(&mut file));
+        file
+    }
+
+    fn take(number: u32, owner: u8) -> Call {
+        let section = Section { owner: BoxNumber(owner), place: 0 };
+        Call { kind: CallKind::Take, engine: Engine(1), section, number }
+    }
+
+    fn beginning(count: u32, own: u64) -> Record {
+        let section = Section { owner: BoxNumber(0), place: 0 };
+        let (engine, for_whom) = (Engine(1), Engine(0));
+        Record::Beginning(Beginning { engine, section, change: 1, for_whom, count, own })
+    }
+
+    #[test]
+    fn wrong_records_are_damage_at_their_first_byte() {
+        let right = Record::HomeCall(take(1, 0));
+        let foreign = Call { engine: Engine(0), ..take(1, 0) };
+        let wrong = [
+            Record::HomeCall(take(1, 0)),
+            Record::HomeCall(take(3, 0)),
+            Record::HomeCall(foreign),
+            Record::KeeperCall(take(1, 0)),
+            Record::KeeperCall(take(2, 1)),
+            Record::KeeperCall(take(0, 1)),
+            Record::Heard { engine: Engine(0), sign: 5 },
+            beginning(1, 7),
+        ];
+        for record in wrong {
+            let opened = SignalBox::open(BoxNumber(1), size(), &file_of(&[right, record]));
+            assert_eq!(opened.unwrap_err(), Damage { at: 9 }, "{record:?}");
+        }
+    }
+
+    /// A box whose engine 1 waits, with that count and sign.
+    fn waiting_box(count: u32, shown: u64) -> SignalBox {
+        let heard = Record::Heard { engine: Engine(1), sign: shown };
+        let file = file_of(&[Record::HomeCall(take(1, 0)), beginning(count, 6), heard]);
+        SignalBox::open(BoxNumber(1), size(), &file).unwrap().signal_box
+    }
+
+    #[test]
+    fn a_count_or_a_sign_at_its_limit_refuses_a_beginning() {
+        let section = Section { owner: BoxNumber(0), place: 0 };
+        let change = Message::Change(Change { section, holder: Some(Engine(2)), change: 2 });
+        for (count, shown) in [(u32::MAX, 6), (1, u64::MAX)] {
+            let mut signal_box = waiting_box(count, shown);
+            let before = signal_box.clone();
+            let effects =
+                signal_box.handle(Input::Message { from: BoxNumber(0), bytes: &change.encode() });
+            assert_eq!(effects.said, [Said::Refused(Refusal::Limit)]);
+            assert_eq!(signal_box, before);
+        }
+    }
+}
