@@ -76,12 +76,15 @@ fn message(kind: Kind, turn: u32, number: &mut u32) -> Option<Message> {
     match kind {
         Kind::Call => {
             *number += 1;
-            let kind = if turn % 2 == 0 { CallKind::Take } else { CallKind::Free };
+            let kind = if turn.is_multiple_of(2) { CallKind::Take } else { CallKind::Free };
             Some(Message::Call(Call { kind, engine, section: FREE, number: *number }))
         }
-        Kind::Repeat => {
-            Some(Message::Call(Call { kind: CallKind::Take, engine, section: WANTED, number: *number }))
-        }
+        Kind::Repeat => Some(Message::Call(Call {
+            kind: CallKind::Take,
+            engine,
+            section: WANTED,
+            number: *number,
+        })),
         Kind::Which => Some(Message::WhichChange { engine: LAST, section: WANTED }),
         Kind::Change => {
             Some(Message::Change(Change { section: WANTED, holder: Some(engine), change: 1 }))
@@ -157,6 +160,9 @@ mod tests {
         let signal_box = full_box();
         let state = signal_box.keeper().section(WANTED);
         assert_eq!((state.holder, state.queue.len()), (Some(Engine(0)), 63));
-        assert_eq!(signal_box.home().engines().filter(|(_, state)| state.wait().is_some()).count(), 63);
+        assert_eq!(
+            signal_box.home().engines().filter(|(_, state)| state.wait().is_some()).count(),
+            63
+        );
     }
 }

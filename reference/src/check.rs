@@ -160,7 +160,9 @@ impl CheckedYard {
                 return Err(format!("engine {engine} is told, and {higher} has a higher own sign"));
             }
             if let Some(other) = ring.iter().find(|it| self.told[it.index()] == Telling::Told) {
-                return Err(format!("engine {engine} is told, and {other} of its ring was already"));
+                return Err(format!(
+                    "engine {engine} is told, and {other} of its ring was already"
+                ));
             }
             self.told[engine.index()] = Telling::Told;
         }
@@ -374,4 +376,3 @@ pub fn check_script<'a>(lines: impl Iterator<Item = &'a str>) -> Result<Checked,
     statistics.refused_lines[usize::from(Refusal::Invalid.number())] += unreadable;
     Ok(Checked { output, statistics })
 }
-

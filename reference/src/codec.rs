@@ -127,7 +127,10 @@ pub enum Record {
     KeeperCall(Call),
     Beginning(Beginning),
     /// A sign heard, and shown from now on.
-    Heard { engine: Engine, sign: u64 },
+    Heard {
+        engine: Engine,
+        sign: u64,
+    },
     /// A call of an engine, at its home.
     HomeCall(Call),
 }

@@ -27,7 +27,8 @@ pub fn compare(program: &str, scripts: Scripts) -> Result<String, String> {
         let script = generate(seed, scripts.lines, None);
         let checked = check_script(script.iter().map(String::as_str));
         let checked = checked.map_err(|wrong| format!("seed {seed}: {wrong}"))?;
-        let theirs = run(program, &script).map_err(|error| format!("seed {seed}: {program}: {error}"))?;
+        let theirs =
+            run(program, &script).map_err(|error| format!("seed {seed}: {program}: {error}"))?;
         if let Some(difference) = difference(&script, &checked.output, &theirs) {
             return Err(format!("seed {seed}: {difference}"));
         }
@@ -39,8 +40,7 @@ pub fn compare(program: &str, scripts: Scripts) -> Result<String, String> {
 
 /// The program's standard output for a script on its standard input.
 fn run(program: &str, script: &[String]) -> io::Result<String> {
-    let mut child =
-        Command::new(program).stdin(Stdio::piped()).stdout(Stdio::piped()).spawn()?;
+    let mut child = Command::new(program).stdin(Stdio::piped()).stdout(Stdio::piped()).spawn()?;
     let mut text = script.join("\n");
     text.push('\n');
     let mut stdin = child.stdin.take().expect("it is piped");

@@ -1,7 +1,7 @@
 //! Runs another program `box` beside this one: same lines in, same lines out, same file.
 
-use crate::compare::Scripts;
 use crate::codec::to_hex;
+use crate::compare::Scripts;
 use crate::generate::generate;
 use crate::numbers::{BoxNumber, YardSize};
 use crate::program::{self, Grouping};
@@ -168,12 +168,15 @@ fn box_lines(seed: u64, lines: usize) -> (Which, Vec<String>) {
 /// The line by which a command comes to the box, if it does.
 fn line_for(number: BoxNumber, command: Command, yard: &Yard) -> Option<String> {
     let at_home = |engine| yard.size().home(engine) == number || engine.0 == 0;
-    let arriving = |message| {
-        yard.message(message).filter(|it| it.to == number && it.from != number)
-    };
+    let arriving =
+        |message| yard.message(message).filter(|it| it.to == number && it.from != number);
     match command {
-        Command::Take(engine, section) if at_home(engine) => Some(format!("take {engine} {section}")),
-        Command::Free(engine, section) if at_home(engine) => Some(format!("free {engine} {section}")),
+        Command::Take(engine, section) if at_home(engine) => {
+            Some(format!("take {engine} {section}"))
+        }
+        Command::Free(engine, section) if at_home(engine) => {
+            Some(format!("free {engine} {section}"))
+        }
         Command::Second(other) if other == number => Some("second".to_string()),
         Command::Deliver(message) => {
             arriving(message).map(|it| format!("{} {}", it.from, to_hex(&it.bytes)))

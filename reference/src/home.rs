@@ -1,6 +1,8 @@
 //! The home of a box's engines: their signs, their calls, and who waits for what they hold.
 
-use crate::codec::{Answer, Beginning, Call, CallKind, Change, Message, Record, Sign, Verdict, Waits};
+use crate::codec::{
+    Answer, Beginning, Call, CallKind, Change, Message, Record, Sign, Verdict, Waits,
+};
 use crate::effects::Effects;
 use crate::numbers::{BoxNumber, Engine, Refusal, Section, YardSize, MAX_BOXES, PLACES};
 

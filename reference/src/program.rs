@@ -63,7 +63,9 @@ impl Line {
             ["free", engine, section] => {
                 Some(Line::Free(parse_engine(engine, size)?, parse_section(section, size)?))
             }
-            [from, hex] => Some(Line::Message(size.box_number(parse_number(from)?)?, from_hex(hex)?)),
+            [from, hex] => {
+                Some(Line::Message(size.box_number(parse_number(from)?)?, from_hex(hex)?))
+            }
             _ => None,
         }
     }
@@ -155,7 +157,12 @@ impl Program {
     }
 
     /// Deals with whole lines.
-    fn lines(&mut self, text: &[u8], grouping: Grouping, output: &mut impl Write) -> io::Result<()> {
+    fn lines(
+        &mut self,
+        text: &[u8],
+        grouping: Grouping,
+        output: &mut impl Write,
+    ) -> io::Result<()> {
         let mut batch = Batch::default();
         for line in text.split_inclusive(|&byte| byte == b'\n') {
             self.line(line.strip_suffix(b"\n").unwrap_or(line), &mut batch);
@@ -192,7 +199,9 @@ impl Program {
         for said in said {
             match said {
                 Said::Send(to, message) if to == self.number => to_itself.push_back(message),
-                Said::Send(to, message) => batch.say(format_args!("{to} {}", to_hex(&message.encode()))),
+                Said::Send(to, message) => {
+                    batch.say(format_args!("{to} {}", to_hex(&message.encode())))
+                }
                 Said::Had(engine, section) => batch.say(format_args!("had {engine} {section}")),
                 Said::GiveBack(engine) => batch.say(format_args!("give back {engine}")),
                 Said::Refused(refusal) => batch.say(format_args!("refused {refusal}")),

@@ -39,7 +39,12 @@ impl WaitsSeen {
         Ok(seen)
     }
 
-    fn add(&mut self, engine: Engine, section: Section, holder: Option<Engine>) -> Result<(), String> {
+    fn add(
+        &mut self,
+        engine: Engine,
+        section: Section,
+        holder: Option<Engine>,
+    ) -> Result<(), String> {
         let Some(holder) = holder else {
             return Err(format!("engine {engine} waits for {section}, which nobody has"));
         };
@@ -48,7 +53,9 @@ impl WaitsSeen {
         }
         match self.edges[engine.index()].replace(Edge { section, holder }) {
             None => Ok(()),
-            Some(other) => Err(format!("engine {engine} waits for {section} and {}", other.section)),
+            Some(other) => {
+                Err(format!("engine {engine} waits for {section} and {}", other.section))
+            }
         }
     }
 

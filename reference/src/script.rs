@@ -131,9 +131,23 @@ mod tests {
     #[test]
     fn lines_that_cannot_be_read_are_refused() {
         let lines = [
-            "yard 9 1", "take 0 0:0", "yard 2 3", "", "# a comment", "yard 2 3", "take 3 0:0",
-            "take 0 2:0", "take 0 0:64", "take 0 0", "second 2", "stop 2", "deliver 1", "deliver x",
-            "cut 1 0", "shows", "show 1",
+            "yard 9 1",
+            "take 0 0:0",
+            "yard 2 3",
+            "",
+            "# a comment",
+            "yard 2 3",
+            "take 3 0:0",
+            "take 0 2:0",
+            "take 0 0:64",
+            "take 0 0",
+            "second 2",
+            "stop 2",
+            "deliver 1",
+            "deliver x",
+            "cut 1 0",
+            "shows",
+            "show 1",
         ];
         assert_eq!(output(&lines.join("\n")), ["refused 1"; 14]);
     }

@@ -183,7 +183,12 @@ impl SignalBox {
         }
     }
 
-    fn waits(&mut self, from: BoxNumber, waits: Waits, effects: &mut Effects) -> Result<(), Refusal> {
+    fn waits(
+        &mut self,
+        from: BoxNumber,
+        waits: Waits,
+        effects: &mut Effects,
+    ) -> Result<(), Refusal> {
         let Waits { engine, section, change, .. } = waits;
         if section.owner != self.number {
             return if from == section.owner {
@@ -247,7 +252,12 @@ mod tests {
             1 => Message::Answer(Answer { engine, number, verdict, holder, change }),
             2 => Message::Change(Change { section, holder, change }),
             3 => Message::WhichChange { engine, section },
-            4 => Message::Sign(Sign { to: engine, count: change, by: other, sign: random.below(60) as u64 }),
+            4 => Message::Sign(Sign {
+                to: engine,
+                count: change,
+                by: other,
+                sign: random.below(60) as u64,
+            }),
             _ => Message::Waits(Waits { engine, section, count: number, change }),
         }
     }

@@ -161,9 +161,8 @@ impl Yard {
     /// The lines of `show`: sections by box and place, then engines.
     fn show(&self) -> Vec<String> {
         let sections = self.boxes.iter().flat_map(section_lines);
-        let engines = self.size.engines().filter_map(|engine| {
-            engine_line(self.home_of(engine), engine)
-        });
+        let engines =
+            self.size.engines().filter_map(|engine| engine_line(self.home_of(engine), engine));
         sections.chain(engines).collect()
     }
 }

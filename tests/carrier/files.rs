@@ -59,7 +59,8 @@ impl Files {
 
     fn replay(&self, number: BoxNumber, bytes: &[u8]) -> Result<SignalBox, String> {
         let opened = SignalBox::open(number, self.size, bytes);
-        let opened = opened.map_err(|damage| format!("box {number}: damage at byte {}", damage.at))?;
+        let opened =
+            opened.map_err(|damage| format!("box {number}: damage at byte {}", damage.at))?;
         Ok(opened.signal_box)
     }
 
@@ -94,7 +95,8 @@ impl Files {
         let boxes = self.size.boxes().map(|number| {
             let mut bytes = self.read(number);
             let given_up = given_up.map(Record::KeeperCall);
-            let found = self.records(&bytes).into_iter().find(|(_, record)| Some(*record) == given_up);
+            let found =
+                self.records(&bytes).into_iter().find(|(_, record)| Some(*record) == given_up);
             if let Some((at, _)) = found {
                 bytes.truncate(at);
             }
@@ -129,7 +131,9 @@ impl Files {
                 return Err(format!("engine {engine} is told, and {other} has a higher own sign"));
             }
             if matches!(stored.mode, Mode::Calling(Call { kind: CallKind::GiveUp, .. })) {
-                return Err(format!("engine {engine} is told, and {other} of its ring was already"));
+                return Err(format!(
+                    "engine {engine} is told, and {other} of its ring was already"
+                ));
             }
         }
         Ok(())

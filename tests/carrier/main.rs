@@ -43,8 +43,9 @@ fn runs(words: &[&str]) -> Result<(), String> {
     let starter = Starter::new(program).map_err(|error| format!("{program}: {error}"))?;
     let (first_seed, count, ticks): (u64, u64, usize) =
         (number(first_seed)?, number(count)?, number(ticks)?);
-    (first_seed..first_seed + count)
-        .try_for_each(|seed| one_run(&starter, seed, ticks, size.unwrap_or_else(|| random_size(seed))))
+    (first_seed..first_seed + count).try_for_each(|seed| {
+        one_run(&starter, seed, ticks, size.unwrap_or_else(|| random_size(seed)))
+    })
 }
 
 fn random_size(seed: u64) -> YardSize {

@@ -95,7 +95,8 @@ fn pass_on(from: BoxNumber, stdout: ChildStdout, said: &Sender<SaidLine>) {
     loop {
         let mut text = String::new();
         let whole = lines.read_line(&mut text).is_ok() && text.ends_with('\n');
-        let passed = whole && said.send(SaidLine { from, text: text.trim_end().to_string() }).is_ok();
+        let passed =
+            whole && said.send(SaidLine { from, text: text.trim_end().to_string() }).is_ok();
         if !passed {
             return;
         }

@@ -137,7 +137,7 @@ impl Run {
         if self.random.chance(KILLS) {
             self.kill(number)?;
         }
-        if self.tick % 100 == 0 {
+        if self.tick.is_multiple_of(100) {
             self.check_claims()?;
         }
         self.check_running()
@@ -227,7 +227,8 @@ impl Run {
 
     fn deliver_due(&mut self) {
         let tick = self.tick;
-        let (due, later) = std::mem::take(&mut self.on_the_way).into_iter().partition(|it| it.due <= tick);
+        let (due, later) =
+            std::mem::take(&mut self.on_the_way).into_iter().partition(|it| it.due <= tick);
         self.on_the_way = later;
         let due: Vec<OnTheWay> = due;
         for message in due {
@@ -238,7 +239,8 @@ impl Run {
     /// Nobody else has the section, and its keeper knows the engine as its holder.
     fn hear_had(&mut self, engine: Engine, section: Section) -> Result<(), String> {
         self.counts.hads += 1;
-        let others = self.claims.iter().filter(|((other, it), _)| *it == section && *other != engine);
+        let others =
+            self.claims.iter().filter(|((other, it), _)| *it == section && *other != engine);
         for (&(other, _), &number) in others {
             if self.files.take_number(other, section) == Some(number) {
                 return Err(format!("engine {other} has it too"));
@@ -263,9 +265,9 @@ impl Run {
     }
 
     fn check_claims(&self) -> Result<(), String> {
-        self.claims.iter().try_for_each(|(&(engine, section), &number)| {
-            self.check_claim(engine, section, number)
-        })
+        self.claims
+            .iter()
+            .try_for_each(|(&(engine, section), &number)| self.check_claim(engine, section, number))
     }
 
     fn check_telling(&mut self, engine: Engine) -> Result<(), String> {
@@ -279,7 +281,8 @@ impl Run {
     fn drive(&mut self) -> Result<(), String> {
         let engine = Engine(self.random.below(self.size.engine_count()) as u8);
         let stored = self.files.stored(engine)?;
-        let claimed = self.claims.keys().filter(|(it, _)| *it == engine).map(|(_, section)| *section);
+        let claimed =
+            self.claims.keys().filter(|(it, _)| *it == engine).map(|(_, section)| *section);
         let mut held: Vec<Section> = claimed.chain(stored.kept.iter()).collect();
         held.dedup();
         let other = self.random.below(self.contended.len());
