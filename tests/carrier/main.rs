@@ -5,15 +5,22 @@ mod processes;
 mod run;
 
 use processes::Starter;
+use reference::compare_box::{compare_cuts, Which};
 use reference::numbers::YardSize;
 use reference::random::Random;
 use reference::script::parse_number;
 use run::Run;
 use std::fs;
+use std::path::PathBuf;
 use std::process::ExitCode;
 
-const USAGE: &str = "usage: carrier PROGRAM FIRST_SEED RUNS TICKS [BOXES ENGINES]
+const USAGE: &str = "usage:
+  carrier PROGRAM FIRST_SEED RUNS TICKS [BOXES ENGINES]  runs boxes, and checks them
+  carrier cuts PROGRAM SEED TICKS                        cuts a file of such a run at every byte
 PROGRAM is a box's program; it may have first arguments of its own, after blanks";
+
+/// How much of a run's file is cut at every byte.
+const CUT_BYTES: usize = 2500;
 
 fn main() -> ExitCode {
     let arguments: Vec<String> = std::env::args().skip(1).collect();
@@ -33,6 +40,7 @@ fn number<T: std::str::FromStr>(text: &str) -> Result<T, String> {
 
 fn runs(words: &[&str]) -> Result<(), String> {
     let (program, first_seed, count, ticks, size) = match *words {
+        ["cuts", program, seed, ticks] => return cuts(program, number(seed)?, number(ticks)?),
         [program, first_seed, count, ticks] => (program, first_seed, count, ticks, None),
         [program, first_seed, count, ticks, boxes, engines] => {
             let size = YardSize::new(number(boxes)?, number(engines)?).ok_or(USAGE)?;
@@ -40,12 +48,26 @@ fn runs(words: &[&str]) -> Result<(), String> {
         }
         _ => return Err(USAGE.to_string()),
     };
-    let starter = Starter::new(program).map_err(|error| format!("{program}: {error}"))?;
     let (first_seed, count, ticks): (u64, u64, usize) =
         (number(first_seed)?, number(count)?, number(ticks)?);
-    (first_seed..first_seed + count).try_for_each(|seed| {
-        one_run(&starter, seed, ticks, size.unwrap_or_else(|| random_size(seed)))
-    })
+    for seed in first_seed..first_seed + count {
+        let root = one_run(program, seed, ticks, size.unwrap_or_else(|| random_size(seed)))?;
+        fs::remove_dir_all(&root).map_err(|error| error.to_string())?;
+    }
+    Ok(())
+}
+
+/// Compares how PROGRAM and the reference open a file of a run, cut and changed at every byte.
+fn cuts(program: &str, seed: u64, ticks: usize) -> Result<(), String> {
+    let size = random_size(seed);
+    let root = one_run(program, seed, ticks, size)?;
+    for number in size.boxes().take(2) {
+        let file = fs::read(root.join(number.to_string()).join("yard"));
+        let mut file = file.map_err(|error| error.to_string())?;
+        file.truncate(CUT_BYTES);
+        println!("{}", compare_cuts(program, Which { number, size }, &file)?);
+    }
+    fs::remove_dir_all(&root).map_err(|error| error.to_string())
 }
 
 fn random_size(seed: u64) -> YardSize {
@@ -54,24 +76,14 @@ fn random_size(seed: u64) -> YardSize {
     YardSize::new(boxes, engines).expect("within the limits")
 }
 
-/// One run in a folder of its own, which stays if something is wrong.
-fn one_run(starter: &Starter, seed: u64, ticks: usize, size: YardSize) -> Result<(), String> {
+/// One run in a folder of its own, which is left there.
+fn one_run(program: &str, seed: u64, ticks: usize, size: YardSize) -> Result<PathBuf, String> {
+    let starter = Starter::new(program).map_err(|error| format!("{program}: {error}"))?;
     let root = std::env::temp_dir().join(format!("carrier-{}-{seed}", std::process::id()));
-    let run = Run::start(starter, seed, size, &root)?;
-    let counts = run.play(ticks).map_err(|wrong| {
+    let counts = Run::start(&starter, seed, size, &root)?.play(ticks).map_err(|wrong| {
         format!("carrier: seed {seed}: {wrong}; files are in {}", root.display())
     })?;
-    fs::remove_dir_all(&root).map_err(|error| error.to_string())?;
-    println!(
-        "carrier: seed {seed}, {} boxes, {} engines: {} messages, {} had, {} told, {} reminded ({} of both late), {} killed: ok",
-        size.box_count(),
-        size.engine_count(),
-        counts.messages,
-        counts.hads,
-        counts.tellings,
-        counts.reminders,
-        counts.late_tellings,
-        counts.kills,
-    );
-    Ok(())
+    let (boxes, engines) = (size.box_count(), size.engine_count());
+    println!("carrier: seed {seed}, {boxes} boxes, {engines} engines: {counts}: ok");
+    Ok(root)
 }

@@ -7,6 +7,7 @@ use reference::numbers::{BoxNumber, Engine, Section, YardSize};
 use reference::random::Random;
 use reference::script::{parse_engine, parse_number, parse_section};
 use std::collections::BTreeMap;
+use std::fmt;
 use std::path::Path;
 use std::sync::mpsc::{channel, Receiver, Sender};
 use std::time::Duration;
@@ -39,6 +40,14 @@ pub struct Counts {
     pub late_tellings: usize,
     pub kills: usize,
     pub refused: usize,
+}
+
+impl fmt::Display for Counts {
+    fn fmt(&self, f: &mut fmt::Formatter) -> fmt::Result {
+        let Counts { messages, hads, tellings, reminders, late_tellings, kills, refused } = self;
+        write!(f, "{messages} messages, {refused} refused, {hads} had, {tellings} told, ")?;
+        write!(f, "{reminders} reminded ({late_tellings} of both late), {kills} killed")
+    }
 }
 
 /// A message on its way.
