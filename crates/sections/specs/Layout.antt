@@ -1,0 +1,45 @@
+-- How a section lies in memory, and what always holds of it there.
+use mathlib.Core.Path.{_≡_}
+use mathlib.Core.Bool.{Bool}
+use mathlib.Core.List.{List, map}
+use Prim.Native.Nat.{ℕ, _/_, _%_, _^_, _<_, _≤_}
+use lib.Dec.{eqb}
+use lib.ListN.{take, getD, replicate}
+use Rattle.sections.specs.declared.Holder.the-variants.{Free}
+use Rattle.sections.specs.declared.queue.Queue.{Queue}
+use Rattle.sections.specs.declared.row.Row.{Row}
+use Rattle.sections.specs.Table.{Section, Table, isIn}
+
+-- the engines of a queue, in the order of coming
+abbrev pub enginesOf : Queue → List ℕ
+enginesOf q = take (q .length) (q .engines)
+
+-- does a 64-bit set hold an engine
+abbrev pub holds : ℕ → ℕ → Bool
+holds word engine = eqb (word / 2 ^ engine % 2) 1
+
+-- the set's bit e is set exactly if e is in the queue
+abbrev pub Matches : Queue → Type 0
+Matches q = (engine : ℕ) → engine < 64 → holds (q .«set») engine ≡ isIn engine (enginesOf q)
+
+-- a queue is no longer than its array
+abbrev pub Fits : Queue → Type 0
+Fits q = q .length ≤ 64
+
+-- the section that a row stands for
+abbrev pub sectionOf : Row → Section
+sectionOf r = record { has = r .holder; queue = enginesOf (r .queue); change = r .change }
+
+-- the table that rows stand for
+abbrev pub tableOfRows : List Row → Table
+tableOfRows rows = map sectionOf rows
+
+-- a row that stands for a section that nobody ever had
+abbrev pub idleRow : Row
+idleRow = record { holder = Free; change = 0; queue = record { engines = replicate 64 0; length = 0; «set» = 0 } }
+
+abbrev pub AllMatch : List Row → Type 0
+AllMatch rows = (place : ℕ) → Matches (getD rows place idleRow .queue)
+
+abbrev pub AllFit : List Row → Type 0
+AllFit rows = (place : ℕ) → Fits (getD rows place idleRow .queue)

@@ -1,0 +1,5 @@
+pub mod Table
+pub mod Bytes
+pub mod Sound
+pub mod Layout
+pub mod Model
