@@ -1,2 +1,5 @@
 pub mod Words
 pub mod Lists
+pub mod Tables
+pub mod Sound
+pub mod Rows

@@ -6,10 +6,11 @@ use mathlib.Core.List.{List, [], _∷_, _++_}
 use Prim.Native.Nat.{ℕ, zero, suc, _+_, _<_, _≤_}
 use native.Mathlib.Omega.{arith}
 use lib.Dec.{eqb}
-use lib.ListN.{length}
+use lib.ListN.{length, getD, take}
+use Rattle.sections.specs.declared.Holder.the-variants.{Engine}
 use Rattle.std.proofs.shelf.Ways.{tells}
 use Rattle.std.proofs.shelf.Tests.{cases-eq, eq-eqb, ne-eqb}
-use Rattle.sections.specs.Table.{isIn, without}
+use Rattle.sections.specs.Table.{firstOf, isIn, restOf, without}
 use Rattle.sections.specs.Sound.{once}
 
 pub isIn-push : (y e : ℕ) (xs : List ℕ) → isIn y (xs ++ e ∷ []) ≡ (eqb e y || isIn y xs)
@@ -43,4 +44,26 @@ length-without e (x ∷ xs) o = let q = length-without e xs in let r = without-a
 
 -- different numbers below n are at most n
 pub at-most : (n : ℕ) (xs : List ℕ) → once xs ≡ true → ((y : ℕ) → isIn y xs ≡ true → y < n) → length xs ≤ n
-at-most n xs o h = ?
+at-most zero [] o h = omega arith
+at-most zero (x ∷ xs) o h = let z : x < 0 = h x (grind (arith, tells)) in omega arith
+at-most (suc n) xs o h =
+    let below : (y : ℕ) → isIn y (without n xs) ≡ true → y < n = λ y p. let q = isIn-without y n xs in let r = h y in grind (arith, tells) in
+    omega (arith, length-without n xs o, at-most n (without n xs) (once-without n xs o) below)
+
+-- the front of an array begins with the array's first
+module _ (n : ℕ) (xs : List ℕ) (some : n ≡ 0 → ⊥) (room : 0 < length xs) where
+  front : (m : ℕ) (ys : List ℕ) → (m ≡ 0 → ⊥) → 0 < length ys → take m ys ≡ getD ys 0 0 ∷ restOf (take m ys)
+  front zero ys h l = absurd (h refl)
+  front (suc m) [] h l = absurd (omega arith)
+  front (suc m) (y ∷ ys) h l = refl
+
+  pub front-first : Engine (getD xs 0 0) ≡ firstOf (take n xs)
+  front-first = sym (ap firstOf (front n xs some room))
+
+  pub front-isIn : isIn (getD xs 0 0) (take n xs) ≡ true
+  front-isIn = rw (front n xs some room) (grind (arith, tells))
+
+  pub front-rest : once (take n xs) ≡ true → without (getD xs 0 0) (take n xs) ≡ restOf (take n xs)
+  front-rest o =
+      let f = front n xs some room in
+      ap (without (getD xs 0 0)) f ∙ without-first (getD xs 0 0) (restOf (take n xs)) (sym (ap once f) ∙ o)

@@ -3,6 +3,7 @@ use mathlib.Core.Path.{_≡_, refl, sym, _∙_, ap}
 use mathlib.Core.Logic.{_⊎_, inl, inr}
 use mathlib.Core.Bool.{Bool, true, false, cond, not, _&&_, _||_}
 use Prim.Native.Nat.{ℕ, zero, suc, _+_, _-_, _*_, _/_, _%_, _^_, _<_, _≤_}
+use native.Mathlib.Nat.{div-eq-of-lt, pow-succ'}
 use native.Mathlib.Omega.{arith}
 use lib.Dec.{eqb}
 use lib.Bits.{bitAnd, bitOr, bitXor}
@@ -14,9 +15,23 @@ use Rattle.sections.specs.Layout.{holds}
 bit-cases : (n : ℕ) → (n % 2 ≡ 0) ⊎ (n % 2 ≡ 1)
 bit-cases n = elim (cases-eq (n % 2) 0) [ inl p ↦ inl p | inr p ↦ inr (omega arith) ]
 
+power-odd : (d : ℕ) → 2 ^ d % 2 ≡ cond (eqb d 0) 1 0
+power-odd zero = refl
+power-odd (suc d) =
+    let even : 2 * 2 ^ d % 2 ≡ 0 = omega arith in
+    ap (λ n. n % 2) (pow-succ' 2 d) ∙ even ∙ sym (ap (λ t. cond t 1 0) (ne-eqb (suc d) 0 (omega arith)))
+
 -- the one bit of a power of two
 power-bit : (e x : ℕ) → (2 ^ e / 2 ^ x) % 2 ≡ cond (eqb e x) 1 0
-power-bit e x = ?
+power-bit e x = elim (cases-lt e x) [ inl h ↦ below h | inr h ↦ above h ]
+  where
+    below : e < x → (2 ^ e / 2 ^ x) % 2 ≡ cond (eqb e x) 1 0
+    below h = rw (div-eq-of-lt (pow-below e x h), ne-eqb e x (omega arith)) refl
+    above : x ≤ e → (2 ^ e / 2 ^ x) % 2 ≡ cond (eqb e x) 1 0
+    above h =
+        let d : e ≡ (e - x) + x = omega arith in
+        let q : 2 ^ e / 2 ^ x ≡ 2 ^ (e - x) = ap (λ n. 2 ^ n / 2 ^ x) d ∙ ap (λ n. n / 2 ^ x) (pow-add 2 (e - x) x) ∙ shl-shr (2 ^ (e - x)) x in
+        rw q (power-odd (e - x) ∙ ap (λ t. cond t 1 0) (elim (cases-eq e x) [ inl p ↦ eq-eqb (e - x) 0 (omega arith) ∙ sym (eq-eqb e x p) | inr p ↦ ne-eqb (e - x) 0 (omega arith) ∙ sym (ne-eqb e x p) ]))
 
 or-bits : (a b : ℕ) (t : Bool) → (a ≡ 0) ⊎ (a ≡ 1) → b ≡ cond t 1 0 → eqb (bitOr a b) 1 ≡ (t || eqb a 1)
 or-bits a b true (inl p) q = rw (p, q) refl
@@ -25,9 +40,9 @@ or-bits a b false (inl p) q = rw (p, q) refl
 or-bits a b false (inr p) q = rw (p, q) refl
 
 clear-bits : (a b : ℕ) (t : Bool) → (a ≡ 0) ⊎ (a ≡ 1) → b ≡ cond t 1 0 → eqb (bitXor a (bitAnd a b)) 1 ≡ (not t && eqb a 1)
-clear-bits a b true (inl p) q = rw (p, q) refl
+clear-bits a b true (inl p) q = rw p refl
 clear-bits a b true (inr p) q = rw (p, q) refl
-clear-bits a b false (inl p) q = rw (p, q) refl
+clear-bits a b false (inl p) q = rw p refl
 clear-bits a b false (inr p) q = rw (p, q) refl
 
 -- setting the bit of an engine

@@ -3,3 +3,4 @@ pub mod Bytes
 pub mod Sound
 pub mod Layout
 pub mod Model
+pub mod Promise

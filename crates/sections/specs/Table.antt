@@ -110,17 +110,27 @@ freeSection s engine = freeBy (s .has) s engine
 abbrev pub giveUpSection : Section → ℕ → Outcome
 giveUpSection s engine = cond (isIn engine (s .queue)) (Ok (record { has = s .has; queue = without engine (s .queue); change = s .change }, Left)) (Err Mismatch)
 
+-- what a call comes to. Of several refusals the one with the lowest number is given.
+abbrev pub takeOutcome : Table → ℕ → ℕ → Outcome
+takeOutcome t engine place = cond (known engine place) (cond (waits engine t) (Err Waiting) (takeSection (section-of t place) engine)) (Err OutOfRange)
+
+abbrev pub freeOutcome : Table → ℕ → ℕ → Outcome
+freeOutcome t engine place = cond (known engine place) (cond (waits engine t) (Err Waiting) (freeSection (section-of t place) engine)) (Err OutOfRange)
+
+abbrev pub giveUpOutcome : Table → ℕ → ℕ → Outcome
+giveUpOutcome t engine place = cond (known engine place) (giveUpSection (section-of t place) engine) (Err OutOfRange)
+
 -- a call changes the section at its place and no other; refused, it changes nothing
 abbrev pub settle : Table → ℕ → Outcome → Table × Result Done Refusal
 settle t place (Ok (s, done)) = (put t place s, Ok done)
 settle t place (Err refusal) = (t, Err refusal)
 
--- THE CALLS: the table afterwards and the answer. Of several refusals the one with the lowest number is given.
+-- THE CALLS: the table afterwards and the answer
 abbrev pub takeOf : Table → ℕ → ℕ → Table × Result Done Refusal
-takeOf t engine place = cond (known engine place) (cond (waits engine t) (t, Err Waiting) (settle t place (takeSection (section-of t place) engine))) (t, Err OutOfRange)
+takeOf t engine place = settle t place (takeOutcome t engine place)
 
 abbrev pub freeOf : Table → ℕ → ℕ → Table × Result Done Refusal
-freeOf t engine place = cond (known engine place) (cond (waits engine t) (t, Err Waiting) (settle t place (freeSection (section-of t place) engine))) (t, Err OutOfRange)
+freeOf t engine place = settle t place (freeOutcome t engine place)
 
 abbrev pub giveUpOf : Table → ℕ → ℕ → Table × Result Done Refusal
-giveUpOf t engine place = cond (known engine place) (settle t place (giveUpSection (section-of t place) engine)) (t, Err OutOfRange)
+giveUpOf t engine place = settle t place (giveUpOutcome t engine place)

@@ -1,5 +1,6 @@
 // One box's 64 sections: who has each, who waits for it and in what order.
 ghost use mathlib.Core.Path.{_≡_};
+ghost use lib.ListN.{length};
 ghost use Rattle.sections.specs.Bytes.{numberOf, answerByte, whoByte};
 ghost use Rattle.sections.specs.Layout.{AllMatch, AllFit, tableOfRows};
 ghost use Rattle.sections.specs.Sound.{NobodyTwice, NobodyItsOwn, NobodyForFree, OneQueue, WaitersKnown, HoldersKnown};
@@ -52,6 +53,7 @@ pub enum Refusal {
 #[derive(Clone, Copy)]
 pub struct Sections {
     rows: [Row; 64],
+    ghost whole: { length rows ≡ 64 },
     ghost matched: { AllMatch rows },
     ghost fitting: { AllFit rows },
     ghost twice: { NobodyTwice (tableOfRows rows) },

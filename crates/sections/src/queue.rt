@@ -2,9 +2,10 @@
 ghost use mathlib.Core.Path.{_≡_};
 ghost use mathlib.Core.Bool.{true, false};
 ghost use mathlib.Core.List.{[], _∷_, _++_};
-ghost use Prim.Native.Nat.{_<_, _≤_};
+ghost use Prim.Native.Nat.{ℕ, _<_, _≤_};
 ghost use lib.ListN.{length, take};
-ghost use Rattle.sections.specs.Table.{firstOf, isIn, without};
+ghost use Rattle.sections.specs.Table.{firstOf, isIn, restOf, without};
+ghost use Rattle.sections.specs.Sound.{once};
 ghost use Rattle.sections.specs.Layout.{Fits, Matches, enginesOf};
 use crate::Holder;
 
@@ -38,6 +39,15 @@ fn close_up(queue: &mut [u8], engine: u8) -> usize
 }
 
 impl Queue {
+    // The engines in the order of coming.
+    pub fn engines(&self) -> &[u8]
+        requires fitting { ⌜ Fits (now self) ⌝ }
+        ensures { λ r. ⌜ now r ≡ enginesOf (now (self .entry)) ⌝ }
+    {
+        let end = self.length;
+        &self.engines[0..end]
+    }
+
     // Is the engine in the queue.
     pub fn has(self, engine: u8) -> bool
         requires matched { ⌜ Matches self ⌝ }
@@ -93,6 +103,23 @@ impl Queue {
             Holder::Free
         } else {
             Holder::Engine(self.engines[0])
+        }
+    }
+
+    // The queue that its first has left.
+    pub fn rest(self) -> Queue
+        requires fitting { ⌜ Fits self ⌝ }
+        requires matched { ⌜ Matches self ⌝ }
+        requires once { ⌜ once (enginesOf self) ≡ true ⌝ }
+        requires known { ⌜ ((engine : ℕ) → isIn engine (enginesOf self) ≡ true → engine < 64) ⌝ }
+        ensures after { λ r. ⌜ enginesOf r ≡ restOf (enginesOf self) ⌝ }
+        ensures fitting { λ r. ⌜ Fits r ⌝ }
+        ensures matched { λ r. ⌜ Matches r ⌝ }
+    {
+        if self.length == 0 {
+            self
+        } else {
+            self.left(self.engines[0])
         }
     }
 }

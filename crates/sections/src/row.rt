@@ -1,17 +1,98 @@
 // One section as it lies in memory, and what a call makes of it.
+ghost use mathlib.Core.Path.{_≡_};
+ghost use mathlib.Core.Bool.{true};
+ghost use Prim.Native.Nat.{ℕ, _<_};
+ghost use Rattle.sections.specs.Table.{freeSection, giveUpSection, isIn, takeSection};
+ghost use Rattle.sections.specs.Sound.{once};
+ghost use Rattle.sections.specs.Layout.{Fits, Matches, Storable, enginesOf, outcomeOf, sectionOf};
+use crate::Done;
 use crate::Holder;
+use crate::Refusal;
 use crate::queue;
 use crate::queue::Queue;
 
 #[derive(Clone, Copy)]
 pub struct Row {
-    holder: Holder,
-    change: u32,
-    queue: Queue,
+    pub holder: Holder,
+    pub change: u32,
+    pub queue: Queue,
 }
 
+// A section that nobody ever had.
 pub const IDLE: Row = Row {
     holder: Holder::Free,
     change: 0,
     queue: queue::EMPTY,
 };
+
+impl Row {
+    // A free section is had; one that another has is waited for.
+    pub fn taken(self, engine: u8) -> Result<(Row, Done), Refusal>
+        requires fitting { ⌜ Fits (self .queue) ⌝ }
+        requires matched { ⌜ Matches (self .queue) ⌝ }
+        requires room { ⌜ self .queue .length < 64 ⌝ }
+        requires known { ⌜ engine < 64 ⌝ }
+        ensures after { λ r. ⌜ outcomeOf r ≡ takeSection (sectionOf self) engine ⌝ }
+        ensures stored { λ r. ⌜ Storable r ⌝ }
+    {
+        match self.holder {
+            Holder::Free => {
+                if self.change < u32::MAX {
+                    let holder = Holder::Engine(engine);
+                    let change = self.change + 1;
+                    Ok((Row { holder, change, ..self }, Done::Had))
+                } else {
+                    Err(Refusal::AtLimit)
+                }
+            }
+            Holder::Engine(holder) => {
+                if holder == engine {
+                    Err(Refusal::Mismatch)
+                } else {
+                    let queue = self.queue.joined(engine);
+                    Ok((Row { queue, ..self }, Done::Waits(holder)))
+                }
+            }
+        }
+    }
+
+    // The engine that has the section lets it go, to the first of the queue or to nobody.
+    pub fn freed(self, engine: u8) -> Result<(Row, Done), Refusal>
+        requires fitting { ⌜ Fits (self .queue) ⌝ }
+        requires matched { ⌜ Matches (self .queue) ⌝ }
+        requires once { ⌜ once (enginesOf (self .queue)) ≡ true ⌝ }
+        requires waiters { ⌜ ((waiter : ℕ) → isIn waiter (enginesOf (self .queue)) ≡ true → waiter < 64) ⌝ }
+        ensures after { λ r. ⌜ outcomeOf r ≡ freeSection (sectionOf self) engine ⌝ }
+        ensures stored { λ r. ⌜ Storable r ⌝ }
+    {
+        match self.holder {
+            Holder::Engine(holder) if holder == engine => {
+                if self.change < u32::MAX {
+                    let holder = self.queue.first();
+                    let change = self.change + 1;
+                    let queue = self.queue.rest();
+                    Ok((Row { holder, change, queue }, Done::LetGo(holder)))
+                } else {
+                    Err(Refusal::AtLimit)
+                }
+            }
+            _ => Err(Refusal::Mismatch),
+        }
+    }
+
+    // An engine leaves the queue.
+    pub fn given_up(self, engine: u8) -> Result<(Row, Done), Refusal>
+        requires fitting { ⌜ Fits (self .queue) ⌝ }
+        requires matched { ⌜ Matches (self .queue) ⌝ }
+        requires known { ⌜ engine < 64 ⌝ }
+        ensures after { λ r. ⌜ outcomeOf r ≡ giveUpSection (sectionOf self) engine ⌝ }
+        ensures stored { λ r. ⌜ Storable r ⌝ }
+    {
+        if self.queue.has(engine) {
+            let queue = self.queue.left(engine);
+            Ok((Row { queue, ..self }, Done::Left))
+        } else {
+            Err(Refusal::Mismatch)
+        }
+    }
+}
