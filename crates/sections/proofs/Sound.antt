@@ -30,21 +30,27 @@ sound-put t p s sound i few = record { order = order; apart = apart }
   where
     order : (q : ℕ) → InOrder (section-of (put t p s) q)
     order q = elim (put-read t p s q) [ inl h ↦ rw (h .1) i | inr h ↦ rw h (sound .order q) ]
+
     moved : (e q : ℕ) → section-of (put t p s) q ≡ section-of t q → WaitsAt (put t p s) e q → WaitsAt t e q
     moved e q h w = ap (λ x. isIn e (x .queue)) (sym h) ∙ w
+
     here : (e q : ℕ) → section-of (put t p s) q ≡ s → WaitsAt (put t p s) e q → isIn e (s .queue) ≡ true
     here e q h w = ap (λ x. isIn e (x .queue)) (sym h) ∙ w
+
     both : (e a b : ℕ) → a ≡ p → (a ≡ b → ⊥) → isIn e (s .queue) ≡ true → WaitsAt t e b → ⊥
     both e a b q n w v = elim (few e w) [ inl u ↦ sound .apart e p b (u, v, λ k. n (q ∙ k)) | inr u ↦ u b v ]
+
     apart : OneQueue (put t p s)
     apart e a b (wa, wb, n) =
         elim (put-read t p s a) [
-            inl h ↦ elim (put-read t p s b) [
-                inl k ↦ n (h .0 ∙ sym (k .0))
-              | inr k ↦ both e a b (h .0) n (here e a (h .1) wa) (moved e b k wb) ]
+          | inl h ↦ elim (put-read t p s b) [
+            | inl k ↦ n (h .0 ∙ sym (k .0))
+            | inr k ↦ both e a b (h .0) n (here e a (h .1) wa) (moved e b k wb)
+          ]
           | inr h ↦ elim (put-read t p s b) [
-                inl k ↦ both e b a (k .0) (λ z. n (sym z)) (here e b (k .1) wb) (moved e a h wa)
-              | inr k ↦ sound .apart e a b (moved e a h wa, moved e b k wb, n) ]
+            | inl k ↦ both e b a (k .0) (λ z. n (sym z)) (here e b (k .1) wb) (moved e a h wa)
+            | inr k ↦ sound .apart e a b (moved e a h wa, moved e b k wb, n)
+          ]
         ]
 
 pub settled : (t : Table) (p : ℕ) (o : Outcome) → Sound t → Keeps t p o → Sound (settle t p o .0)
@@ -55,7 +61,7 @@ settled t p (Err refusal) sound k = sound
 abbrev pub Idle : Table → ℕ → Type 0
 Idle t e = (q : ℕ) → WaitsAt t e q → ⊥
 
-not-true : (b : Bool) → (b ≡ true → ⊥) → b ≡ false
+pub not-true : (b : Bool) → (b ≡ true → ⊥) → b ≡ false
 not-true true h = absurd (h refl)
 not-true false h = refl
 
@@ -69,32 +75,32 @@ rest-in : (y : ℕ) (q : List ℕ) → isIn y (restOf q) ≡ true → isIn y q �
 rest-in y [] w = w
 rest-in y (x ∷ xs) w = or-right (eqb x y) (isIn y xs) w
 
-same-engine : (h : Holder) (e f : ℕ) → h ≡ Engine e → h ≡ Engine f → e ≡ f
+pub same-engine : (h : Holder) (e f : ℕ) → h ≡ Engine e → h ≡ Engine f → e ≡ f
 same-engine h e f p q = cc
 
-not-both : (h : Holder) (e : ℕ) → h ≡ Engine e → h ≡ Free → ⊥
+pub not-both : (h : Holder) (e : ℕ) → h ≡ Engine e → h ≡ Free → ⊥
 not-both h e p q = let z : _≡_ {A = ℕ} 0 1 = cc in omega arith
 
 -- a free section is had
 taken-order : (s : Section) (e : ℕ) → InOrder s → e < 64 → s .has ≡ Free → InOrder (record { has = Engine e; queue = s .queue; change = s .change + 1 })
 taken-order s e i known h =
     record {
-        twice = i .twice;
-        others = λ y w k. i .had y w h;
-        had = λ y w k. i .had y w h;
-        waiters = i .waiters;
-        holders = λ y k. rw (same-engine (Engine y) y e refl (sym k)) known
+      twice = i .twice;
+      others = λ y w k. i .had y w h;
+      had = λ y w k. i .had y w h;
+      waiters = i .waiters;
+      holders = λ y k. rw (same-engine (Engine y) y e refl (sym k)) known;
     }
 
 -- a section that another has is waited for
 joined-order : (s : Section) (e f : ℕ) → InOrder s → e < 64 → isIn e (s .queue) ≡ false → s .has ≡ Engine f → (f ≡ e → ⊥) → InOrder (record { has = s .has; queue = s .queue ++ e ∷ []; change = s .change })
 joined-order s e f i known out h n =
     record {
-        twice = once-push e (s .queue) (i .twice) out;
-        others = λ y w k. elim (joined-cases y e (s .queue) w) [ inl q ↦ n (same-engine (s .has) f y h k ∙ sym q) | inr v ↦ i .others y v k ];
-        had = λ y w k. not-both (s .has) f h k;
-        waiters = λ y w. elim (joined-cases y e (s .queue) w) [ inl q ↦ rw q at known | inr v ↦ i .waiters y v ];
-        holders = i .holders
+      twice = once-push e (s .queue) (i .twice) out;
+      others = λ y w k. elim (joined-cases y e (s .queue) w) [ inl q ↦ n (same-engine (s .has) f y h k ∙ sym q) | inr v ↦ i .others y v k ];
+      had = λ y w k. not-both (s .has) f h k;
+      waiters = λ y w. elim (joined-cases y e (s .queue) w) [ inl q ↦ rw q at known | inr v ↦ i .waiters y v ];
+      holders = i .holders;
     }
 
 -- a section passes to the first of its queue, or to nobody
@@ -104,32 +110,32 @@ passed-order s i = go (s .queue) refl
     go : (q : List ℕ) → s .queue ≡ q → InOrder (record { has = firstOf q; queue = restOf q; change = s .change + 1 })
     go [] h =
         record {
-            twice = refl;
-            others = λ y w k. both-ways false refl w;
-            had = λ y w k. both-ways false refl w;
-            waiters = λ y w. absurd (both-ways false refl w);
-            holders = λ y k. absurd (not-both Free y k refl)
+          twice = refl;
+          others = λ y w k. both-ways false refl w;
+          had = λ y w k. both-ways false refl w;
+          waiters = λ y w. absurd (both-ways false refl w);
+          holders = λ y k. absurd (not-both Free y k refl);
         }
     go (x ∷ xs) h =
         let o = and-parts (not (isIn x xs)) (once xs) (sym (ap once h) ∙ i .twice) in
         let first : isIn x (s .queue) ≡ true = ap (isIn x) h ∙ or-left (eqb x x) (isIn x xs) (eq-eqb x x refl) in
         record {
-            twice = o .1;
-            others = λ y w k. both-ways (isIn y xs) (rw (same-engine (Engine x) x y refl k) at (bool-not-true (isIn x xs) (o .0))) w;
-            had = λ y w k. not-both (Engine x) x refl k;
-            waiters = λ y w. i .waiters y (ap (isIn y) h ∙ or-right (eqb x y) (isIn y xs) w);
-            holders = λ y k. rw (same-engine (Engine x) x y refl k) at (i .waiters x first)
+          twice = o .1;
+          others = λ y w k. both-ways (isIn y xs) (rw (same-engine (Engine x) x y refl k) at (bool-not-true (isIn x xs) (o .0))) w;
+          had = λ y w k. not-both (Engine x) x refl k;
+          waiters = λ y w. i .waiters y (ap (isIn y) h ∙ or-right (eqb x y) (isIn y xs) w);
+          holders = λ y k. rw (same-engine (Engine x) x y refl k) at (i .waiters x first);
         }
 
 -- an engine leaves the queue
 left-order : (s : Section) (e : ℕ) → InOrder s → InOrder (record { has = s .has; queue = without e (s .queue); change = s .change })
 left-order s e i =
     record {
-        twice = once-without e (s .queue) (i .twice);
-        others = λ y w. i .others y (left-in y e (s .queue) w);
-        had = λ y w. i .had y (left-in y e (s .queue) w);
-        waiters = λ y w. i .waiters y (left-in y e (s .queue) w);
-        holders = i .holders
+      twice = once-without e (s .queue) (i .twice);
+      others = λ y w. i .others y (left-in y e (s .queue) w);
+      had = λ y w. i .had y (left-in y e (s .queue) w);
+      waiters = λ y w. i .waiters y (left-in y e (s .queue) w);
+      holders = i .holders;
     }
 
 pub take-keeps : (t : Table) (e p : ℕ) → Sound t → Keeps t p (takeOutcome t e p)
@@ -140,6 +146,7 @@ take-keeps t e p sound =
   where
     few : Idle t e → (y : ℕ) → isIn y (queue-of t p ++ e ∷ []) ≡ true → WaitsAt t y p ⊎ Idle t y
     few idle y w = elim (joined-cases y e (queue-of t p) w) [ inl q ↦ inr (rw q at idle) | inr v ↦ inl v ]
+
     by : e < 64 → Idle t e → (h : Holder) → section-of t p .has ≡ h → Keeps t p (takeBy h (section-of t p) e)
     by below idle Free h = cond-both (changeable (section-of t p)) _ _ (Keeps t p) (λ _. (taken-order (section-of t p) e (sound .order p) below h, λ y w. inl w)) (λ _. tt)
     by below idle (Engine f) h =
@@ -168,12 +175,13 @@ empty-sound = record { order = λ p. rw (none p) idle-order; apart = λ e p q w.
   where
     none : (p : ℕ) → section-of empty p ≡ idle
     none p = elim (cases-lt p 64) [ inl h ↦ getD-replicate 64 p idle idle h | inr h ↦ getD-past empty p idle h ]
+
     idle-order : InOrder idle
     idle-order =
         record {
-            twice = refl;
-            others = λ y w k. both-ways false refl w;
-            had = λ y w k. both-ways false refl w;
-            waiters = λ y w. absurd (both-ways false refl w);
-            holders = λ y k. absurd (not-both Free y k refl)
+          twice = refl;
+          others = λ y w k. both-ways false refl w;
+          had = λ y w k. both-ways false refl w;
+          waiters = λ y w. absurd (both-ways false refl w);
+          holders = λ y k. absurd (not-both Free y k refl);
         }

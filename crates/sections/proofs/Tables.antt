@@ -23,9 +23,10 @@ put-elsewhere t p s q h = getD-set-other t p q s idle h
 pub set-read : {X : Type 0} (d : X) (xs : List X) (p : ℕ) (x : X) (q : ℕ) → ((q ≡ p) × (getD (set xs p x) q d ≡ x)) ⊎ (getD (set xs p x) q d ≡ getD xs q d)
 set-read d xs p x q =
     elim (cases-eq q p) [
-        inl e ↦ elim (cases-lt q (length xs)) [
-            inl h ↦ inl (e, rw e (getD-set-same xs p x d (rw e at h)))
-          | inr h ↦ inr (ap (λ u. getD u q d) (set-past xs p x (rw e at h))) ]
+      | inl e ↦ elim (cases-lt q (length xs)) [
+        | inl h ↦ inl (e, rw e (getD-set-same xs p x d (rw e at h)))
+        | inr h ↦ inr (ap (λ u. getD u q d) (set-past xs p x (rw e at h)))
+      ]
       | inr n ↦ inr (getD-set-other xs p q x d n)
     ]
 

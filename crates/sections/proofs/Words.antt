@@ -27,6 +27,7 @@ power-bit e x = elim (cases-lt e x) [ inl h ↦ below h | inr h ↦ above h ]
   where
     below : e < x → (2 ^ e / 2 ^ x) % 2 ≡ cond (eqb e x) 1 0
     below h = rw (div-eq-of-lt (pow-below e x h), ne-eqb e x (omega arith)) refl
+
     above : x ≤ e → (2 ^ e / 2 ^ x) % 2 ≡ cond (eqb e x) 1 0
     above h =
         let d : e ≡ (e - x) + x = omega arith in

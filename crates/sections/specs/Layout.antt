@@ -4,7 +4,7 @@ use mathlib.Core.Bool.{Bool}
 use mathlib.Core.List.{List, [], map}
 use Prim.Native.Nat.{ℕ, _/_, _%_, _^_, _<_, _≤_}
 use lib.Dec.{eqb}
-use lib.ListN.{take, getD}
+use lib.ListN.{length, take, getD}
 use Rattle.std.specs.declared.result.Result.{Result}
 use Rattle.std.specs.declared.result.Result.the-variants.{Ok, Err}
 use Rattle.sections.specs.declared.Holder.the-variants.{Free}
@@ -28,7 +28,7 @@ Matches q = (engine : ℕ) → engine < 64 → holds (q .«set») engine ≡ isI
 
 -- a queue is no longer than its array
 abbrev pub Fits : Queue → Type 0
-Fits q = q .length ≤ 64
+Fits q = q .length ≤ length (q .engines)
 
 -- the section that a row stands for
 abbrev pub sectionOf : Row → Section

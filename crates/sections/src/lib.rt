@@ -6,6 +6,7 @@ ghost use Rattle.sections.specs.Layout.{AllMatch, AllFit, tableOfRows};
 ghost use Rattle.sections.specs.Sound.{NobodyTwice, NobodyItsOwn, NobodyForFree, OneQueue, WaitersKnown, HoldersKnown};
 
 mod calls;
+pub mod promises;
 mod queue;
 mod row;
 

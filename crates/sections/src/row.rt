@@ -33,14 +33,21 @@ impl Row {
         requires room { ⌜ self .queue .length < 64 ⌝ }
         requires known { ⌜ engine < 64 ⌝ }
         ensures after { λ r. ⌜ outcomeOf r ≡ takeSection (sectionOf self) engine ⌝ }
-        ensures stored { λ r. ⌜ Storable r ⌝ }
+        ensures storable { λ r. ⌜ Storable r ⌝ }
     {
         match self.holder {
             Holder::Free => {
                 if self.change < u32::MAX {
                     let holder = Holder::Engine(engine);
                     let change = self.change + 1;
-                    Ok((Row { holder, change, ..self }, Done::Had))
+                    Ok((
+                        Row {
+                            holder,
+                            change,
+                            ..self
+                        },
+                        Done::Had,
+                    ))
                 } else {
                     Err(Refusal::AtLimit)
                 }
@@ -63,7 +70,7 @@ impl Row {
         requires once { ⌜ once (enginesOf (self .queue)) ≡ true ⌝ }
         requires waiters { ⌜ ((waiter : ℕ) → isIn waiter (enginesOf (self .queue)) ≡ true → waiter < 64) ⌝ }
         ensures after { λ r. ⌜ outcomeOf r ≡ freeSection (sectionOf self) engine ⌝ }
-        ensures stored { λ r. ⌜ Storable r ⌝ }
+        ensures storable { λ r. ⌜ Storable r ⌝ }
     {
         match self.holder {
             Holder::Engine(holder) if holder == engine => {
@@ -71,7 +78,14 @@ impl Row {
                     let holder = self.queue.first();
                     let change = self.change + 1;
                     let queue = self.queue.rest();
-                    Ok((Row { holder, change, queue }, Done::LetGo(holder)))
+                    Ok((
+                        Row {
+                            holder,
+                            change,
+                            queue,
+                        },
+                        Done::LetGo(holder),
+                    ))
                 } else {
                     Err(Refusal::AtLimit)
                 }
@@ -86,7 +100,7 @@ impl Row {
         requires matched { ⌜ Matches (self .queue) ⌝ }
         requires known { ⌜ engine < 64 ⌝ }
         ensures after { λ r. ⌜ outcomeOf r ≡ giveUpSection (sectionOf self) engine ⌝ }
-        ensures stored { λ r. ⌜ Storable r ⌝ }
+        ensures storable { λ r. ⌜ Storable r ⌝ }
     {
         if self.queue.has(engine) {
             let queue = self.queue.left(engine);
