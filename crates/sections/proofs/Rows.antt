@@ -10,13 +10,14 @@ use lib.Dec.{eqb, ltb}
 use lib.ListN.{length, getD, set, replicate, length-set}
 use Rattle.std.proofs.shelf.Lists.{getD-set-same, getD-set-other, getD-replicate, getD-past, length-take-le}
 use Rattle.std.proofs.shelf.Tests.{and-from, cases-lt, eqb-true, lt-ltb, or-cases}
+use Rattle.std.specs.declared.option.Option.the-variants.{None}
 use Rattle.std.specs.declared.result.Result.{Result}
 use Rattle.std.specs.declared.result.Result.the-variants.{Ok, Err}
 use Rattle.sections.specs.declared.Done.{Done}
 use Rattle.sections.specs.declared.Refusal.{Refusal}
 use Rattle.sections.specs.declared.Sections.{Sections}
 use Rattle.sections.specs.declared.row.Row.{Row}
-use Rattle.sections.specs.Table.{Section, Table, empty, freeOutcome, freeSection, giveUpOutcome, giveUpSection, idle, isIn, known, put, section-of, takeOutcome, takeSection, waits}
+use Rattle.sections.specs.Table.{Section, Table, empty, freeOutcome, freeSection, giveUpOutcome, giveUpSection, idle, isIn, put, refusalOf, section-of, takeOutcome, takeSection, unless, waits}
 use Rattle.sections.specs.Sound.{HoldersKnown, InOrder, NobodyForFree, NobodyItsOwn, NobodyTwice, OneQueue, WaitersKnown, once}
 use Rattle.sections.specs.Layout.{AllFit, AllMatch, Fits, Matches, Placed, enginesOf, holds, idleRow, sectionOf, tableOfRows}
 use Rattle.sections.specs.Model.{tableOf}
@@ -98,19 +99,16 @@ room-for x e p below n =
     let each : (y : ℕ) → isIn y (e ∷ enginesOf q) ≡ true → y < 64 = λ y w. elim (or-cases (eqb e y) (isIn y (enginesOf q)) w) [ inl h ↦ rw (eqb-true e y h) at below | inr h ↦ i .waiters y h ] in
     omega (arith, at-most 64 (e ∷ enginesOf q) once each, length-take-le (q .length) (q .engines) (x .fitting p))
 
-known-true : (e p : ℕ) → e < 64 → p < 64 → known e p ≡ true
-known-true e p h k = and-from (ltb e 64) (ltb p 64) (lt-ltb e 64 h) (lt-ltb p 64 k)
-
 -- what comes to the section at a place, where nothing refuses it before
-module _ (x : Sections) (e p : ℕ) (h : e < 64) (k : p < 64) where
-  pub take-here : waits e (tableOf x) ≡ false → takeSection (sectionOf (getD (x .rows) p idleRow)) e ≡ takeOutcome (tableOf x) e p
-  take-here n = rw (known-true e p h k, n) (ap (λ s. takeSection s e) (sym (section-at (x .rows) p)))
+module _ (x : Sections) (e p : ℕ) where
+  pub take-here : refusalOf (tableOf x) e p ≡ None → takeSection (sectionOf (getD (x .rows) p idleRow)) e ≡ takeOutcome (tableOf x) e p
+  take-here h = ap (λ s. takeSection s e) (sym (section-at (x .rows) p)) ∙ sym (ap (λ r. unless r (takeSection (section-of (tableOf x) p) e)) h)
 
-  pub free-here : waits e (tableOf x) ≡ false → freeSection (sectionOf (getD (x .rows) p idleRow)) e ≡ freeOutcome (tableOf x) e p
-  free-here n = rw (known-true e p h k, n) (ap (λ s. freeSection s e) (sym (section-at (x .rows) p)))
+  pub free-here : refusalOf (tableOf x) e p ≡ None → freeSection (sectionOf (getD (x .rows) p idleRow)) e ≡ freeOutcome (tableOf x) e p
+  free-here h = ap (λ s. freeSection s e) (sym (section-at (x .rows) p)) ∙ sym (ap (λ r. unless r (freeSection (section-of (tableOf x) p) e)) h)
 
-  pub give-up-here : giveUpSection (sectionOf (getD (x .rows) p idleRow)) e ≡ giveUpOutcome (tableOf x) e p
-  give-up-here = rw (known-true e p h k) (ap (λ s. giveUpSection s e) (sym (section-at (x .rows) p)))
+  pub give-up-here : e < 64 → p < 64 → giveUpSection (sectionOf (getD (x .rows) p idleRow)) e ≡ giveUpOutcome (tableOf x) e p
+  give-up-here h k = rw (and-from (ltb e 64) (ltb p 64) (lt-ltb e 64 h) (lt-ltb p 64 k)) (ap (λ s. giveUpSection s e) (sym (section-at (x .rows) p)))
 
 pub placed : (p : ℕ) (r : Result (Row × Done) Refusal) → p < 64 → Placed p r
 placed p (Ok _) h = h

@@ -16,10 +16,10 @@ use Rattle.sections.specs.declared.Holder.{Holder}
 use Rattle.sections.specs.declared.Holder.the-variants.{Free, Engine}
 use Rattle.sections.specs.declared.Done.{Done}
 use Rattle.sections.specs.declared.Refusal.{Refusal}
-use Rattle.sections.specs.Table.{Outcome, Section, Table, changeable, empty, firstOf, freeBy, freeOutcome, giveUpOutcome, idle, isIn, known, passOn, put, queue-of, restOf, section-of, settle, takeBy, takeOutcome, waits, without}
+use Rattle.sections.specs.Table.{Outcome, Section, Table, changeable, empty, firstOf, freeBy, freeOutcome, freeSection, giveUpOutcome, idle, isIn, known, passOn, put, queue-of, restOf, section-of, settle, takeBy, takeOutcome, takeSection, waits, without}
 use Rattle.sections.specs.Sound.{FewNew, InOrder, Keeps, OneQueue, WaitsAt, once}
 use Rattle.sections.proofs.Lists.{isIn-push, isIn-without, once-push, once-without}
-use Rattle.sections.proofs.Tables.{put-read, waits-nowhere}
+use Rattle.sections.proofs.Tables.{put-read, unless-either, waits-nowhere}
 
 pub record Sound (t : Table) : Type 0 where
   pub order : (p : ℕ) → InOrder (section-of t p)
@@ -140,9 +140,7 @@ left-order s e i =
 
 pub take-keeps : (t : Table) (e p : ℕ) → Sound t → Keeps t p (takeOutcome t e p)
 take-keeps t e p sound =
-    cond-both (known e p) _ _ (Keeps t p)
-    (λ k. cond-both (waits e t) _ _ (Keeps t p) (λ _. tt) (λ n. by (ltb-true e 64 (and-parts (ltb e 64) (ltb p 64) k .0)) (waits-nowhere e t n) (section-of t p .has) refl))
-    (λ _. tt)
+    unless-either t e p (takeSection (section-of t p) e) (Keeps t p) (λ _. tt) (λ h. by (h .0) (waits-nowhere e t (h .2)) (section-of t p .has) refl)
   where
     few : Idle t e → (y : ℕ) → isIn y (queue-of t p ++ e ∷ []) ≡ true → WaitsAt t y p ⊎ Idle t y
     few idle y w = elim (joined-cases y e (queue-of t p) w) [ inl q ↦ inr (rw q at idle) | inr v ↦ inl v ]
@@ -154,7 +152,7 @@ take-keeps t e p sound =
         (λ n. (joined-order (section-of t p) e f (sound .order p) below (not-true (isIn e (queue-of t p)) (idle p)) h (eqb-false f e n), few idle))
 
 pub free-keeps : (t : Table) (e p : ℕ) → Sound t → Keeps t p (freeOutcome t e p)
-free-keeps t e p sound = cond-both (known e p) _ _ (Keeps t p) (λ _. cond-both (waits e t) _ _ (Keeps t p) (λ _. tt) (λ _. by (section-of t p .has))) (λ _. tt)
+free-keeps t e p sound = unless-either t e p (freeSection (section-of t p) e) (Keeps t p) (λ _. tt) (λ _. by (section-of t p .has))
   where
     by : (h : Holder) → Keeps t p (freeBy h (section-of t p) e)
     by Free = tt

@@ -5,11 +5,17 @@ use mathlib.Core.Bool.{Bool, true, false, _||_}
 use mathlib.Core.List.{List, [], _∷_}
 use Prim.Native.Nat.{ℕ, zero, suc, _<_, _≤_}
 use native.Mathlib.Omega.{arith}
+use lib.Dec.{ltb}
 use lib.ListN.{length, getD, set}
+use Rattle.std.specs.declared.option.Option.{Option}
+use Rattle.std.specs.declared.option.Option.the-variants.{Some, None}
+use Rattle.std.specs.declared.result.Result.the-variants.{Err}
+use Rattle.sections.specs.declared.Refusal.{Refusal}
+use Rattle.std.proofs.shelf.Ways.{tells}
 use Rattle.std.proofs.shelf.Lists.{getD-set-same, getD-set-other, set-past, map-set, getD-past}
-use Rattle.std.proofs.shelf.Tests.{cases-eq, cases-lt, or-parts, or-from, both-ways, cases-bool}
+use Rattle.std.proofs.shelf.Tests.{cases-eq, cases-lt, or-parts, or-from, both-ways, cases-bool, ltb-true}
 use Rattle.sections.specs.declared.row.Row.{Row}
-use Rattle.sections.specs.Table.{Section, Table, idle, isIn, put, queue-of, section-of, waits}
+use Rattle.sections.specs.Table.{Outcome, Section, Table, idle, isIn, put, queue-of, refusalOf, section-of, unless, waits}
 use Rattle.sections.specs.Sound.{WaitsAt}
 use Rattle.sections.specs.Layout.{idleRow, sectionOf, tableOfRows}
 
@@ -57,3 +63,15 @@ nowhere-waits e (s ∷ t) h =
     or-from (isIn e (s .queue)) (waits e t)
     (elim (cases-bool (isIn e (s .queue))) [ inl w ↦ absurd (h 0 w) | inr n ↦ n ])
     (nowhere-waits e t (λ q. h (suc q)))
+
+-- who is refused neither for its number nor for waiting
+pub not-refused : (t : Table) (e p : ℕ) → refusalOf t e p ≡ None → (e < 64) × (p < 64) × (waits e t ≡ false)
+not-refused t e p h = let a = ltb-true e 64 in let b = ltb-true p 64 in (grind (arith, tells), grind (arith, tells), grind (arith, tells))
+
+-- a fact of all that comes of a section holds of what is refused before too
+pub unless-either : (t : Table) (e p : ℕ) (o : Outcome) (P : Outcome → Type 0) → ((r : Refusal) → P (Err r)) → ((e < 64) × (p < 64) × (waits e t ≡ false) → P o) → P (unless (refusalOf t e p) o)
+unless-either t e p o P refused here = by (refusalOf t e p) refl
+  where
+    by : (r : Option Refusal) → refusalOf t e p ≡ r → P (unless r o)
+    by (Some r) h = refused r
+    by None h = here (not-refused t e p h)

@@ -12,12 +12,12 @@ use Rattle.std.specs.declared.result.Result.{Result}
 use Rattle.std.specs.declared.result.Result.the-variants.{Ok, Err}
 use Rattle.sections.specs.declared.Holder.{Holder}
 use Rattle.sections.specs.declared.Holder.the-variants.{Free, Engine}
-use Rattle.sections.specs.Table.{Outcome, Section, Table, changeable, firstOf, freeBy, freeOutcome, giveUpOutcome, isIn, known, passOn, put, queue-of, restOf, section-of, settle, takeBy, takeOutcome, waits, without}
+use Rattle.sections.specs.Table.{Outcome, Section, Table, changeable, firstOf, freeBy, freeOutcome, freeSection, giveUpOutcome, isIn, known, passOn, put, queue-of, restOf, section-of, settle, takeBy, takeOutcome, takeSection, waits, without}
 use Rattle.sections.specs.Sound.{WaitsAt}
 use Rattle.sections.specs.Promise.{FirstServed, InTurn, ahead}
 use Rattle.sections.proofs.Lists.{isIn-push, isIn-without}
 use Rattle.sections.proofs.Sound.{not-both, not-true, same-engine}
-use Rattle.sections.proofs.Tables.{put-read, waits-nowhere}
+use Rattle.sections.proofs.Tables.{put-read, unless-either, waits-nowhere}
 
 -- one section before and after
 pub record Fair (s s′ : Section) : Type 0 where
@@ -55,7 +55,7 @@ first-rest [] new h = absurd (not-both Free new h refl)
 first-rest (x ∷ xs) new h = ap (λ y. y ∷ xs) (same-engine (Engine x) x new refl h)
 
 pub take-fair : (t : Table) (e p : ℕ) → FairOutcome (section-of t p) (takeOutcome t e p)
-take-fair t e p = cond-both (known e p) _ _ (FairOutcome (section-of t p)) (λ _. cond-both (waits e t) _ _ (FairOutcome (section-of t p)) (λ _. tt) (λ n. by n (section-of t p .has) refl)) (λ _. tt)
+take-fair t e p = unless-either t e p (takeSection (section-of t p) e) (FairOutcome (section-of t p)) (λ _. tt) (λ h. by (h .2) (section-of t p .has) refl)
   where
     by : waits e t ≡ false → (h : Holder) → section-of t p .has ≡ h → FairOutcome (section-of t p) (takeBy h (section-of t p) e)
     by n Free h = cond-both (changeable (section-of t p)) _ _ (FairOutcome (section-of t p)) (λ _. record { turn = λ one other w a. a; first = λ old new o _ _. absurd (not-both (section-of t p .has) old o h) }) (λ _. tt)
@@ -67,7 +67,7 @@ take-fair t e p = cond-both (known e p) _ _ (FairOutcome (section-of t p)) (λ _
         })
 
 pub free-fair : (t : Table) (e p : ℕ) → FairOutcome (section-of t p) (freeOutcome t e p)
-free-fair t e p = cond-both (known e p) _ _ (FairOutcome (section-of t p)) (λ _. cond-both (waits e t) _ _ (FairOutcome (section-of t p)) (λ _. tt) (λ _. by (section-of t p .has))) (λ _. tt)
+free-fair t e p = unless-either t e p (freeSection (section-of t p) e) (FairOutcome (section-of t p)) (λ _. tt) (λ _. by (section-of t p .has))
   where
     by : (h : Holder) → FairOutcome (section-of t p) (freeBy h (section-of t p) e)
     by Free = tt

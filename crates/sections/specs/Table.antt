@@ -6,6 +6,8 @@ use Prim.Native.Nat.{ℕ, _+_}
 use lib.Dec.{eqb, ltb}
 use lib.ListN.{getD, set, replicate}
 use Rattle.std.specs.shelf.Lists.{kept-by}
+use Rattle.std.specs.declared.option.Option.{Option}
+use Rattle.std.specs.declared.option.Option.the-variants.{Some, None}
 use Rattle.std.specs.declared.result.Result.{Result}
 use Rattle.std.specs.declared.result.Result.the-variants.{Ok, Err}
 use Rattle.sections.specs.declared.Holder.{Holder}
@@ -72,6 +74,10 @@ known engine place = ltb engine 64 && ltb place 64
 abbrev pub changeable : Section → Bool
 changeable s = ltb (s .change) 4294967295
 
+-- the change number of a section's next holder, while there is one
+abbrev pub nextChange : Section → Result ℕ Refusal
+nextChange s = cond (changeable s) (Ok (s .change + 1)) (Err AtLimit)
+
 -- what a call makes of one section: the section afterwards and the answer, or the refusal
 abbrev pub Outcome : Type 0
 Outcome = Result (Section × Done) Refusal
@@ -110,12 +116,21 @@ freeSection s engine = freeBy (s .has) s engine
 abbrev pub giveUpSection : Section → ℕ → Outcome
 giveUpSection s engine = cond (isIn engine (s .queue)) (Ok (record { has = s .has; queue = without engine (s .queue); change = s .change }, Left)) (Err Mismatch)
 
+-- why an engine may neither take nor free a section, whoever has it
+abbrev pub refusalOf : Table → ℕ → ℕ → Option Refusal
+refusalOf t engine place = cond (known engine place) (cond (waits engine t) (Some Waiting) None) (Some OutOfRange)
+
+-- refused, or what comes of the section
+abbrev pub unless : Option Refusal → Outcome → Outcome
+unless (Some refusal) outcome = Err refusal
+unless None outcome = outcome
+
 -- what a call comes to. Of several refusals the one with the lowest number is given.
 abbrev pub takeOutcome : Table → ℕ → ℕ → Outcome
-takeOutcome t engine place = cond (known engine place) (cond (waits engine t) (Err Waiting) (takeSection (section-of t place) engine)) (Err OutOfRange)
+takeOutcome t engine place = unless (refusalOf t engine place) (takeSection (section-of t place) engine)
 
 abbrev pub freeOutcome : Table → ℕ → ℕ → Outcome
-freeOutcome t engine place = cond (known engine place) (cond (waits engine t) (Err Waiting) (freeSection (section-of t place) engine)) (Err OutOfRange)
+freeOutcome t engine place = unless (refusalOf t engine place) (freeSection (section-of t place) engine)
 
 abbrev pub giveUpOutcome : Table → ℕ → ℕ → Outcome
 giveUpOutcome t engine place = cond (known engine place) (giveUpSection (section-of t place) engine) (Err OutOfRange)

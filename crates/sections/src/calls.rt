@@ -1,7 +1,7 @@
 // The calls on a box's sections, and what can be asked of them.
 ghost use mathlib.Core.Path.{_≡_};
-ghost use Rattle.sections.specs.Table.{change-of, empty, freeOf, freeOutcome, giveUpOf, giveUpOutcome, holder-of, queue-of, settle, takeOf, takeOutcome, waits};
-ghost use Rattle.sections.specs.Layout.{Placed, Storable, outcomeOf};
+ghost use Rattle.sections.specs.Table.{change-of, empty, freeOf, freeOutcome, giveUpOf, giveUpOutcome, holder-of, queue-of, refusalOf, section-of, settle, takeOf, takeOutcome, waits};
+ghost use Rattle.sections.specs.Layout.{Placed, Storable, outcomeOf, sectionOf};
 ghost use Rattle.sections.specs.Model.{tableOf};
 ghost use Rattle.sections.specs.Promise.{FirstServed, InTurn};
 ghost use Rattle.sections.specs.Sound.{Keeps};
@@ -28,22 +28,14 @@ impl Sections {
     pub fn holder(&self, place: u8) -> Holder
         ensures { λ r. ⌜ r ≡ holder-of (tableOf (now (self .entry))) place ⌝ }
     {
-        if place < PLACES {
-            self.rows[place as usize].holder
-        } else {
-            Holder::Free
-        }
+        self.row(place).holder
     }
 
     // How often the holder of the section at a place has changed.
     pub fn change(&self, place: u8) -> u32
         ensures { λ r. ⌜ r ≡ change-of (tableOf (now (self .entry))) place ⌝ }
     {
-        if place < PLACES {
-            self.rows[place as usize].change
-        } else {
-            0
-        }
+        self.row(place).change
     }
 
     // Who waits for the section at a place, in the order of coming.
@@ -103,16 +95,37 @@ impl Sections {
         self.settle(place, outcome)
     }
 
+    // The section at a place; where there is no such place, one that nobody ever had.
+    fn row(&self, place: u8) -> Row
+        ensures { λ r. ⌜ sectionOf r ≡ section-of (tableOf (now (self .entry))) place ⌝ }
+    {
+        if place < PLACES {
+            self.rows[place as usize]
+        } else {
+            row::IDLE
+        }
+    }
+
+    // Why an engine may neither take nor free a section, whoever has it.
+    fn refusal(&self, engine: u8, place: u8) -> Option<Refusal>
+        ensures { λ r. ⌜ r ≡ refusalOf (tableOf (now (self .entry))) engine place ⌝ }
+    {
+        if engine >= ENGINES || place >= PLACES {
+            Some(Refusal::OutOfRange)
+        } else if self.waits(engine) {
+            Some(Refusal::Waiting)
+        } else {
+            None
+        }
+    }
+
     fn take_outcome(&self, engine: u8, place: u8) -> Result<(Row, Done), Refusal>
         ensures after { λ r. ⌜ outcomeOf r ≡ takeOutcome (tableOf (now (self .entry))) engine place ⌝ }
         ensures storable { λ r. ⌜ Storable r ⌝ }
         ensures placed { λ r. ⌜ Placed place r ⌝ }
     {
-        if engine >= ENGINES || place >= PLACES {
-            return Err(Refusal::OutOfRange);
-        }
-        if self.waits(engine) {
-            return Err(Refusal::Waiting);
+        if let Some(refusal) = self.refusal(engine, place) {
+            return Err(refusal);
         }
         let row = self.rows[place as usize];
         row.taken(engine)
@@ -123,11 +136,8 @@ impl Sections {
         ensures storable { λ r. ⌜ Storable r ⌝ }
         ensures placed { λ r. ⌜ Placed place r ⌝ }
     {
-        if engine >= ENGINES || place >= PLACES {
-            return Err(Refusal::OutOfRange);
-        }
-        if self.waits(engine) {
-            return Err(Refusal::Waiting);
+        if let Some(refusal) = self.refusal(engine, place) {
+            return Err(refusal);
         }
         let row = self.rows[place as usize];
         row.freed(engine)

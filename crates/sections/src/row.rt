@@ -2,7 +2,7 @@
 ghost use mathlib.Core.Path.{_≡_};
 ghost use mathlib.Core.Bool.{true};
 ghost use Prim.Native.Nat.{ℕ, _<_};
-ghost use Rattle.sections.specs.Table.{freeSection, giveUpSection, isIn, takeSection};
+ghost use Rattle.sections.specs.Table.{freeSection, giveUpSection, isIn, nextChange, takeSection};
 ghost use Rattle.sections.specs.Sound.{once};
 ghost use Rattle.sections.specs.Layout.{Fits, Matches, Storable, enginesOf, outcomeOf, sectionOf};
 use crate::Done;
@@ -26,6 +26,17 @@ pub const IDLE: Row = Row {
 };
 
 impl Row {
+    // The change number of the section's next holder.
+    fn next_change(self) -> Result<u32, Refusal>
+        ensures { λ r. ⌜ r ≡ nextChange (sectionOf self) ⌝ }
+    {
+        if self.change < u32::MAX {
+            Ok(self.change + 1)
+        } else {
+            Err(Refusal::AtLimit)
+        }
+    }
+
     // A free section is had; one that another has is waited for.
     pub fn taken(self, engine: u8) -> Result<(Row, Done), Refusal>
         requires fitting { ⌜ Fits (self .queue) ⌝ }
@@ -74,21 +85,17 @@ impl Row {
     {
         match self.holder {
             Holder::Engine(holder) if holder == engine => {
-                if self.change < u32::MAX {
-                    let holder = self.queue.first();
-                    let change = self.change + 1;
-                    let queue = self.queue.rest();
-                    Ok((
-                        Row {
-                            holder,
-                            change,
-                            queue,
-                        },
-                        Done::LetGo(holder),
-                    ))
-                } else {
-                    Err(Refusal::AtLimit)
-                }
+                let change = self.next_change()?;
+                let holder = self.queue.first();
+                let queue = self.queue.rest();
+                Ok((
+                    Row {
+                        holder,
+                        change,
+                        queue,
+                    },
+                    Done::LetGo(holder),
+                ))
             }
             _ => Err(Refusal::Mismatch),
         }

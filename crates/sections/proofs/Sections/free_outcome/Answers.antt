@@ -1,6 +1,8 @@
 -- nothing refuses it before, so that the row's outcome is the call's
 use mathlib.Core.Path.{_∙_, sym}
+use Rattle.sections.specs.Model.{tableOf}
 use Rattle.sections.proofs.Rows.{free-here, placed, row-order}
+use Rattle.sections.proofs.Tables.{not-refused}
 use Rattle.sections.proofs.Sections.free_outcome.Needs as need
 
 pub freed-requires : need.freed-requires
@@ -11,8 +13,12 @@ freed-requires c κs =
 
 pub returns : need.returns
 returns c =
+    let x = c .args .self .now in
+    let e = c .args .engine in
+    let p = c .args .place in
+    let none = sym (c .in-rest .ensures tt) in
     record {
-      after = c .freed .ensures .after ∙ free-here (c .args .self .now) (c .args .engine) (c .args .place) (c .if-engine-ge-ENGINES .left) (c .if-place-ge-PLACES .left) (sym (c .if-waits .ensures tt));
+      after = c .freed .ensures .after ∙ free-here x e p none;
       storable = c .freed .ensures .storable;
-      placed = placed (c .args .place) (c .freed .result) (c .if-place-ge-PLACES .left);
+      placed = placed p (c .freed .result) (not-refused (tableOf x) e p none .1);
     }
