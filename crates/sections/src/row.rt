@@ -48,20 +48,14 @@ impl Row {
     {
         match self.holder {
             Holder::Free => {
-                if self.change < u32::MAX {
-                    let holder = Holder::Engine(engine);
-                    let change = self.change + 1;
-                    Ok((
-                        Row {
-                            holder,
-                            change,
-                            ..self
-                        },
-                        Done::Had,
-                    ))
-                } else {
-                    Err(Refusal::AtLimit)
-                }
+                let change = self.next_change()?;
+                let holder = Holder::Engine(engine);
+                let row = Row {
+                    holder,
+                    change,
+                    ..self
+                };
+                Ok((row, Done::Had))
             }
             Holder::Engine(holder) => {
                 if holder == engine {
@@ -88,14 +82,12 @@ impl Row {
                 let change = self.next_change()?;
                 let holder = self.queue.first();
                 let queue = self.queue.rest();
-                Ok((
-                    Row {
-                        holder,
-                        change,
-                        queue,
-                    },
-                    Done::LetGo(holder),
-                ))
+                let row = Row {
+                    holder,
+                    change,
+                    queue,
+                };
+                Ok((row, Done::LetGo(holder)))
             }
             _ => Err(Refusal::Mismatch),
         }
