@@ -13,6 +13,7 @@ use Rattle.std.proofs.shelf.Tests.{and-from, cases-lt, eqb-true, lt-ltb, or-cas
 use Rattle.std.specs.declared.option.Option.the-variants.{None}
 use Rattle.std.specs.declared.result.Result.{Result}
 use Rattle.std.specs.declared.result.Result.the-variants.{Ok, Err}
+use Rattle.sections.specs.declared.Holder.the-variants.{Free}
 use Rattle.sections.specs.declared.Done.{Done}
 use Rattle.sections.specs.declared.Refusal.{Refusal}
 use Rattle.sections.specs.declared.Sections.{Sections}
@@ -21,7 +22,7 @@ use Rattle.sections.specs.Table.{Section, Table, empty, freeOutcome, freeSecti
 use Rattle.sections.specs.Sound.{HoldersKnown, InOrder, NobodyForFree, NobodyItsOwn, NobodyTwice, OneQueue, WaitersKnown, once}
 use Rattle.sections.specs.Layout.{AllFit, AllMatch, Fits, Matches, Placed, enginesOf, holds, idleRow, sectionOf, tableOfRows}
 use Rattle.sections.specs.Model.{tableOf}
-use Rattle.sections.proofs.Sound.{Sound, empty-sound, not-true}
+use Rattle.sections.proofs.Sound.{Sound, not-true, quiet-sound}
 use Rattle.sections.proofs.Tables.{section-at, set-read, table-set, waits-nowhere}
 use Rattle.sections.proofs.Lists.{at-most}
 
@@ -74,13 +75,13 @@ owed-set x p r m f sound =
 pub holds-none : (e : ℕ) → holds 0 e ≡ false
 holds-none e = rw (zero-div (2 ^ e)) refl
 
--- rows that nobody ever had
-pub owed-empty : (r : Row) → sectionOf r ≡ idle → Matches (r .queue) → Fits (r .queue) → Owed (replicate 64 r)
-owed-empty r i m f =
+-- rows of sections that nobody has and nobody waits for
+pub owed-empty : (r : Row) → r .holder ≡ Free → enginesOf (r .queue) ≡ [] → Matches (r .queue) → Fits (r .queue) → Owed (replicate 64 r)
+owed-empty r free none m f =
     owed (replicate 64 r) refl
     (at (λ y. Matches (y .queue)) m (λ e h. holds-none e))
     (at (λ y. Fits (y .queue)) f (omega arith))
-    (subst Sound (sym (ap (λ s. replicate 64 s) i)) empty-sound)
+    (quiet-sound (sectionOf r) free none)
   where
     at : (P : Row → Type 0) → P r → P idleRow → (q : ℕ) → P (getD (replicate 64 r) q idleRow)
     at P here past q = elim (cases-lt q 64) [ inl h ↦ rw (getD-replicate 64 q r idleRow h) here | inr h ↦ rw (getD-past (replicate 64 r) q idleRow h) past ]

@@ -6,7 +6,7 @@ use mathlib.Core.List.{List, [], _∷_, _++_}
 use Prim.Native.Nat.{ℕ, zero, suc, _+_, _<_, _≤_}
 use native.Mathlib.Omega.{arith}
 use lib.Dec.{eqb, ltb}
-use lib.ListN.{length}
+use lib.ListN.{length, replicate}
 use Rattle.std.proofs.shelf.Ways.{tells}
 use Rattle.std.proofs.shelf.Lists.{getD-replicate, getD-past}
 use Rattle.std.proofs.shelf.Tests.{both-ways, cond-both, cases-eq, cases-lt, eqb-false, eqb-true, eq-eqb, ltb-true, and-parts, or-cases, or-left, or-right, not-true as bool-not-true}
@@ -167,19 +167,30 @@ give-up-keeps t e p sound =
     (λ _. cond-both (isIn e (queue-of t p)) _ _ (Keeps t p) (λ _. (left-order (section-of t p) e (sound .order p), λ y w. inl (left-in y e (queue-of t p) w))) (λ _. tt))
     (λ _. tt)
 
+-- a table of sections that nobody has and nobody waits for
+pub quiet-sound : (s : Section) → s .has ≡ Free → s .queue ≡ [] → Sound (replicate 64 s)
+quiet-sound s free none =
+    record { order = λ p. elim (at p) [ inl h ↦ rw h (quiet s free none) | inr h ↦ rw h (quiet idle refl refl) ]; apart = λ e p q w. nobody e p (w .0) }
+  where
+    at : (p : ℕ) → (section-of (replicate 64 s) p ≡ s) ⊎ (section-of (replicate 64 s) p ≡ idle)
+    at p = elim (cases-lt p 64) [ inl h ↦ inl (getD-replicate 64 p s idle h) | inr h ↦ inr (getD-past (replicate 64 s) p idle h) ]
+
+    no : (e : ℕ) (q : List ℕ) → q ≡ [] → isIn e q ≡ true → ⊥
+    no e q h w = both-ways false refl (sym (ap (isIn e) h) ∙ w)
+
+    nobody : (e p : ℕ) → WaitsAt (replicate 64 s) e p → ⊥
+    nobody e p w = elim (at p) [ inl h ↦ no e _ (ap (λ x. x .queue) h ∙ none) w | inr h ↦ no e _ (ap (λ x. x .queue) h) w ]
+
+    quiet : (x : Section) → x .has ≡ Free → x .queue ≡ [] → InOrder x
+    quiet x f n =
+        record {
+          twice = ap once n;
+          others = λ y w k. no y _ n w;
+          had = λ y w k. no y _ n w;
+          waiters = λ y w. absurd (no y _ n w);
+          holders = λ y k. absurd (not-both (x .has) y k f);
+        }
+
 -- the table that a box begins with
 pub empty-sound : Sound empty
-empty-sound = record { order = λ p. rw (none p) idle-order; apart = λ e p q w. both-ways false refl (ap (λ s. isIn e (s .queue)) (sym (none p)) ∙ w .0) }
-  where
-    none : (p : ℕ) → section-of empty p ≡ idle
-    none p = elim (cases-lt p 64) [ inl h ↦ getD-replicate 64 p idle idle h | inr h ↦ getD-past empty p idle h ]
-
-    idle-order : InOrder idle
-    idle-order =
-        record {
-          twice = refl;
-          others = λ y w k. both-ways false refl w;
-          had = λ y w k. both-ways false refl w;
-          waiters = λ y w. absurd (both-ways false refl w);
-          holders = λ y k. absurd (not-both Free y k refl);
-        }
+empty-sound = quiet-sound idle refl refl

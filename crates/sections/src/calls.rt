@@ -1,6 +1,7 @@
 // The calls on a box's sections, and what can be asked of them.
 ghost use mathlib.Core.Path.{_≡_};
-ghost use Rattle.sections.specs.Table.{change-of, empty, freeOf, freeOutcome, giveUpOf, giveUpOutcome, holder-of, queue-of, refusalOf, section-of, settle, takeOf, takeOutcome, waits};
+ghost use Rattle.std.specs.Options.{Cases};
+ghost use Rattle.sections.specs.Table.{change-of, empty, freeOf, freeOutcome, giveUpOf, giveUpOutcome, holder-of, idle, queue-of, refusalOf, section-of, settle, takeOf, takeOutcome, waits};
 ghost use Rattle.sections.specs.Layout.{Placed, Storable, outcomeOf, sectionOf};
 ghost use Rattle.sections.specs.Model.{tableOf};
 ghost use Rattle.sections.specs.Promise.{FirstServed, InTurn};
@@ -28,14 +29,20 @@ impl Sections {
     pub fn holder(&self, place: u8) -> Holder
         ensures { λ r. ⌜ r ≡ holder-of (tableOf (now (self .entry))) place ⌝ }
     {
-        self.row(place).holder
+        match self.row(place) {
+            Some(row) => row.holder,
+            None => Holder::Free,
+        }
     }
 
     // How often the holder of the section at a place has changed.
     pub fn change(&self, place: u8) -> u32
         ensures { λ r. ⌜ r ≡ change-of (tableOf (now (self .entry))) place ⌝ }
     {
-        self.row(place).change
+        match self.row(place) {
+            Some(row) => row.change,
+            None => 0,
+        }
     }
 
     // Who waits for the section at a place, in the order of coming.
@@ -95,14 +102,14 @@ impl Sections {
         self.settle(place, outcome)
     }
 
-    // The section at a place; where there is no such place, one that nobody ever had.
-    fn row(&self, place: u8) -> Row
-        ensures { λ r. ⌜ sectionOf r ≡ section-of (tableOf (now (self .entry))) place ⌝ }
+    // The section at a place, if there is such a place.
+    fn row(&self, place: u8) -> Option<Row>
+        ensures { λ r. ⌜ Cases r (section-of (tableOf (now (self .entry))) place ≡ idle) (λ row. section-of (tableOf (now (self .entry))) place ≡ sectionOf row) ⌝ }
     {
         if place < PLACES {
-            self.rows[place as usize]
+            Some(self.rows[place as usize])
         } else {
-            row::IDLE
+            None
         }
     }
 

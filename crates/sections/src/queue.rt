@@ -2,7 +2,8 @@
 ghost use mathlib.Core.Path.{_≡_};
 ghost use mathlib.Core.Bool.{true, false};
 ghost use mathlib.Core.List.{[], _∷_, _++_};
-ghost use Prim.Native.Nat.{ℕ, _<_, _≤_};
+ghost use Prim.Native.Nat.{ℕ, _*_, _%_, _^_, _<_, _≤_};
+ghost use lib.Bits.{bitAnd, bitOr, bitXor};
 ghost use lib.ListN.{length, take};
 ghost use Rattle.sections.specs.Table.{firstOf, isIn, restOf, without};
 ghost use Rattle.sections.specs.Sound.{once};
@@ -38,6 +39,22 @@ fn close_up(queue: &mut [u8], engine: u8) -> usize
     left
 }
 
+// The set with an engine.
+fn with_engine(set: u64, engine: u8) -> u64
+    requires { ⌜ engine < 64 ⌝ }
+    ensures { λ r. ⌜ r ≡ bitOr set ((1 * 2 ^ engine) % 2 ^ 64) ⌝ }
+{
+    set | (1 << engine)
+}
+
+// The set without an engine.
+fn without_engine(set: u64, engine: u8) -> u64
+    requires { ⌜ engine < 64 ⌝ }
+    ensures { λ r. ⌜ r ≡ bitXor set (bitAnd set ((1 * 2 ^ engine) % 2 ^ 64)) ⌝ }
+{
+    set ^ (set & (1 << engine))
+}
+
 impl Queue {
     // The engines in the order of coming.
     pub fn engines(&self) -> &[u8]
@@ -71,7 +88,7 @@ impl Queue {
         Queue {
             engines,
             length: self.length + 1,
-            set: self.set | (1 << engine),
+            set: with_engine(self.set, engine),
         }
     }
 
@@ -90,7 +107,7 @@ impl Queue {
         Queue {
             engines,
             length,
-            set: self.set ^ (self.set & (1 << engine)),
+            set: without_engine(self.set, engine),
         }
     }
 
@@ -99,10 +116,9 @@ impl Queue {
         requires fitting { ⌜ Fits self ⌝ }
         ensures { λ r. ⌜ r ≡ firstOf (enginesOf self) ⌝ }
     {
-        if self.length == 0 {
-            Holder::Free
-        } else {
-            Holder::Engine(self.engines[0])
+        match self.engines() {
+            [first, ..] => Holder::Engine(*first),
+            [] => Holder::Free,
         }
     }
 

@@ -5,4 +5,4 @@ use Rattle.sections.proofs.Rows.{holds-none, owed-empty}
 use Rattle.sections.proofs.Sections.new.Needs as need
 
 pub ghost-result : need.ghost-result
-ghost-result c = owed-empty _ refl (λ e h. holds-none e) (omega arith)
+ghost-result c = owed-empty _ refl refl (λ e h. holds-none e) (omega arith)

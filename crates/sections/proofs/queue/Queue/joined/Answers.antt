@@ -5,7 +5,7 @@ use native.Mathlib.Omega.{arith}
 use lib.Dec.{eqb}
 use lib.ListN.{length-set}
 use Rattle.std.proofs.shelf.Lists.{take-more-set}
-use Rattle.sections.specs.Layout.{enginesOf}
+use Rattle.sections.specs.Layout.{enginesOf, holds}
 use Rattle.sections.specs.Table.{isIn}
 use Rattle.sections.proofs.Lists.{isIn-push}
 use Rattle.sections.proofs.Words.{holds-set}
@@ -19,7 +19,7 @@ returns c =
       after = after;
       fitting = omega (arith, length-set (q .engines) (q .length) (c .args .engine));
       matched = λ y h.
-          holds-set (q .«set») (c .args .engine) y (c .pre .known) ∙
+          ap (λ word. holds word y) (c .with-engine .ensures) ∙ holds-set (q .«set») (c .args .engine) y (c .pre .known) ∙
           ap (λ t. eqb (c .args .engine) y || t) (c .pre .matched y h) ∙
           sym (isIn-push y (c .args .engine) (enginesOf q)) ∙ sym (ap (isIn y) after);
     }

@@ -6,7 +6,7 @@ use lib.Dec.{eqb}
 use Prim.Native.Nat.{_-_}
 use lib.ListN.{length, take, drop, length-append}
 use Rattle.std.proofs.shelf.Lists.{take-append-le}
-use Rattle.sections.specs.Layout.{enginesOf}
+use Rattle.sections.specs.Layout.{enginesOf, holds}
 use Rattle.sections.specs.Table.{isIn, without}
 use Rattle.sections.proofs.Lists.{isIn-without}
 use Rattle.sections.proofs.Words.{holds-clear}
@@ -24,7 +24,7 @@ returns c =
       after = after;
       fitting = omega (arith, length-append (u .last .queue) (drop (q .length - 0) (q .engines)));
       matched = λ y h.
-          holds-clear (q .«set») e y (c .pre .known) ∙
+          ap (λ word. holds word y) (c .without-engine .ensures) ∙ holds-clear (q .«set») e y (c .pre .known) ∙
           ap (λ t. not (eqb e y) && t) (c .pre .matched y h) ∙
           sym (isIn-without y e (enginesOf q)) ∙ sym (ap (isIn y) after);
     }
