@@ -3,7 +3,7 @@ ghost use mathlib.Core.Path.{_≡_};
 ghost use Rattle.std.specs.Of.String.{string-bytes};
 ghost use Rattle.std.specs.Vec.{made};
 ghost use Rattle.sections.specs.Model.{tableOf};
-ghost use Rattle.rehearse.specs.Play.{answerText, doneText, letGoText, playOf, sectionText};
+ghost use Rattle.rehearse.specs.Play.{answerText, doneText, headText, letGoText, playOf, sectionText};
 use crate::script::Call;
 use crate::script::Verb;
 use sections::Done;
@@ -68,6 +68,12 @@ pub fn answer_text(
     }
 }
 
+fn section_head(heap: Global, place: u8, holder: u8, change: u32) -> Result<String, AllocError>
+    ensures { λ r. ⌜ made r (λ s. string-bytes s ≡ headText place holder change) ⌝ }
+{
+    format!(heap, "section 0:{place} {holder} {change}:")
+}
+
 // The line that shows a section that somebody has.
 pub fn section_text(
     heap: Global,
@@ -78,7 +84,7 @@ pub fn section_text(
 ) -> Result<String, AllocError>
     ensures { λ r. ⌜ made r (λ s. string-bytes s ≡ sectionText place holder change (now (queue .entry))) ⌝ }
 {
-    let mut text = format!(heap, "section 0:{place} {holder} {change}:")?;
+    let mut text = section_head(heap, place, holder, change)?;
     for engine in queue {
         let next = format!(heap, " {engine}")?;
         text.push_str(next.as_str())?;

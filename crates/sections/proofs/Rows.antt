@@ -8,7 +8,7 @@ use native.Mathlib.Nat.{zero-div}
 use native.Mathlib.Omega.{arith}
 use lib.Dec.{eqb, ltb}
 use lib.ListN.{length, getD, set, replicate, length-set}
-use Rattle.std.proofs.shelf.Lists.{getD-set-same, getD-set-other, getD-replicate, getD-past, length-take-le}
+use Rattle.std.proofs.shelf.Lists.{getD-set-same, getD-set-other, getD-replicate, getD-past, length-map, length-take-le}
 use Rattle.std.proofs.shelf.Tests.{and-from, cases-lt, eqb-true, lt-ltb, or-cases}
 use Rattle.std.specs.declared.option.Option.the-variants.{None}
 use Rattle.std.specs.declared.result.Result.{Result}
@@ -60,6 +60,9 @@ sound-of x =
       order = λ p. record { twice = x .twice p; others = λ e. x .others e p; had = λ e. x .had e p; waiters = λ e. x .waiters e p; holders = λ e. x .holders e p };
       apart = x .apart;
     }
+
+pub table-length : (x : Sections) → length (tableOf x) ≡ 64
+table-length x = length-map (x .rows) sectionOf ∙ x .whole
 
 -- one row is replaced
 pub owed-set : (x : Sections) (p : ℕ) (r : Row) → Matches (r .queue) → Fits (r .queue) → Sound (put (tableOf x) p (sectionOf r)) → Owed (set (x .rows) p r)

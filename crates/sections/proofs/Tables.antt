@@ -9,13 +9,13 @@ use lib.Dec.{ltb}
 use lib.ListN.{length, getD, set}
 use Rattle.std.specs.declared.option.Option.{Option}
 use Rattle.std.specs.declared.option.Option.the-variants.{Some, None}
-use Rattle.std.specs.declared.result.Result.the-variants.{Err}
+use Rattle.std.specs.declared.result.Result.the-variants.{Ok, Err}
 use Rattle.sections.specs.declared.Refusal.{Refusal}
 use Rattle.std.proofs.shelf.Ways.{tells}
-use Rattle.std.proofs.shelf.Lists.{getD-set-same, getD-set-other, set-past, map-set, getD-past}
+use Rattle.std.proofs.shelf.Lists.{getD-set-same, getD-set-other, length-set, set-past, map-set, getD-past}
 use Rattle.std.proofs.shelf.Tests.{cases-eq, cases-lt, or-parts, or-from, both-ways, cases-bool, ltb-true}
 use Rattle.sections.specs.declared.row.Row.{Row}
-use Rattle.sections.specs.Table.{Outcome, Section, Table, idle, isIn, put, queue-of, refusalOf, section-of, unless, waits}
+use Rattle.sections.specs.Table.{Outcome, Section, Table, idle, isIn, put, queue-of, refusalOf, section-of, settle, unless, waits}
 use Rattle.sections.specs.Sound.{WaitsAt}
 use Rattle.sections.specs.Layout.{idleRow, sectionOf, tableOfRows}
 
@@ -38,6 +38,15 @@ set-read d xs p x q =
 
 pub put-read : (t : Table) (p : ℕ) (s : Section) (q : ℕ) → ((q ≡ p) × (section-of (put t p s) q ≡ s)) ⊎ (section-of (put t p s) q ≡ section-of t q)
 put-read = set-read idle
+
+-- a call changes the section at its place and no other, and the table keeps its length
+pub settle-elsewhere : (t : Table) (p : ℕ) (o : Outcome) (q : ℕ) → (q ≡ p → ⊥) → section-of (settle t p o .0) q ≡ section-of t q
+settle-elsewhere t p (Ok (s, done)) q n = put-elsewhere t p s q n
+settle-elsewhere t p (Err refusal) q n = refl
+
+pub settle-length : (t : Table) (p : ℕ) (o : Outcome) → length (settle t p o .0) ≡ length t
+settle-length t p (Ok (s, done)) = length-set t p s
+settle-length t p (Err refusal) = refl
 
 -- the section that a row stands for
 pub section-at : (rows : List Row) (p : ℕ) → section-of (tableOfRows rows) p ≡ sectionOf (getD rows p idleRow)

@@ -26,4 +26,4 @@ returns c =
     let queue = c .args .queue .now in
     c .loop-engine .inv ∙
     ap (λ q. string-bytes (c .in-Continue-text .text) ++ queueText q) (take-all (c .loop-engine .engine-index) queue (c .loop-engine-test .left)) ∙
-    ap (λ b. b ++ queueText queue) (c .in-Continue-text .ensures tt .made)
+    ap (λ b. b ++ queueText queue) (c .in-Continue-text .ensures tt)
