@@ -40,16 +40,16 @@ getOf t e = cond (ltb e 64) (Ok (engineAt t e)) (Err OutOfRange)
 abbrev pub putOf : Engines → ℕ → Engine → Engines × Result (Unit {0}) Refusal
 putOf t e x = cond (ltb e 64) (with t e x, Ok tt) (t, Err OutOfRange)
 
--- a fresh table has at each place an engine that waits for nobody and shows its number
-abbrev pub FRESH-SIGNS : Type 0
-FRESH-SIGNS = (e : ℕ) → e < 64 → engineAt freshOf e ≡ record { wait = Nobody; count = 0; shown = e; own = e }
-
 -- a table of sixty-four
 pub record Sized (t : Engines) : Type 0 where
   pub waits : length (t .waits) ≡ 64
   pub counts : length (t .counts) ≡ 64
   pub shown : length (t .shown) ≡ 64
   pub own : length (t .own) ≡ 64
+
+-- a fresh table has at each place an engine that waits for nobody and shows its number
+abbrev pub FRESH-SIGNS : Type 0
+FRESH-SIGNS = Sized freshOf × ((e : ℕ) → e < 64 → engineAt freshOf e ≡ record { wait = Nobody; count = 0; shown = e; own = e })
 
 -- after a change the changed place has what was put there, and every other place what it had
 abbrev pub PUT-ONE : Type 0

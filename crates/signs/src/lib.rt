@@ -83,7 +83,12 @@ impl Engine {
         let Some(count) = self.count.checked_add(1) else {
             return Err(Refusal::Limit);
         };
-        Ok(Engine { wait: Wait::For(whom), count, shown: own, own })
+        Ok(Engine {
+            wait: Wait::For(whom),
+            count,
+            shown: own,
+            own,
+        })
     }
 
     // Does it wait for `by` since its `count`-th beginning.
@@ -104,7 +109,12 @@ impl Engine {
             return Err(Refusal::Stale);
         }
         if self.shown < sign {
-            let after = Engine { wait: self.wait, count: self.count, shown: sign, own: self.own };
+            let after = Engine {
+                wait: self.wait,
+                count: self.count,
+                shown: sign,
+                own: self.own,
+            };
             return Ok((after, Heard::TellOn(sign)));
         }
         Ok((self, Heard::PassedOver))
@@ -118,7 +128,12 @@ impl Engine {
             return Err(Refusal::Stale);
         }
         if sign == self.own && self.shown == self.own {
-            let after = Engine { wait: Wait::Nobody, count: self.count, shown: self.shown, own: self.own };
+            let after = Engine {
+                wait: Wait::Nobody,
+                count: self.count,
+                shown: self.shown,
+                own: self.own,
+            };
             return Ok((after, Heard::Found));
         }
         Ok((self, Heard::PassedOver))
@@ -128,6 +143,10 @@ impl Engine {
     pub fn listen(self, by: u8, count: u32, sign: u64) -> Result<(Engine, Heard), Refusal>
         ensures { λ r. ⌜ r ≡ listenOf self by count sign ⌝ }
     {
-        if self.shown < sign { self.hear(by, count, sign) } else { self.find(by, count, sign) }
+        if sign > self.shown {
+            self.hear(by, count, sign)
+        } else {
+            self.find(by, count, sign)
+        }
     }
 }
