@@ -1,0 +1,5 @@
+pub mod Did
+pub mod Tidy
+pub mod Relays
+pub mod Stays
+pub mod Tied

@@ -1,0 +1,3 @@
+-- Worked cases.
+-- Assumes nothing.
+use mathlib.Core.Path.{_≡_}

@@ -1,0 +1,44 @@
+// The promises of the net of engines that wait for one another and tell signs, each carried by a function's contract.
+ghost use Rattle.rings.specs.Promise.{REAL, ONLY-HIGHEST, ONE-FINDER, RING-STAYS, OWN-SIGNS, ONLY-UP};
+
+// Whoever finds is in a ring of waits at that very moment, however late what it heard was told.
+pub fn real() -> u8
+    ensures { λ _. ⌜ REAL ⌝ }
+{
+    0
+}
+
+// Whoever finds has the highest own sign of its ring.
+pub fn only_highest() -> u8
+    ensures { λ _. ⌜ ONLY-HIGHEST ⌝ }
+{
+    0
+}
+
+// Two who find in one ring are the same engine.
+pub fn one_finder() -> u8
+    ensures { λ _. ⌜ ONE-FINDER ⌝ }
+{
+    0
+}
+
+// A ring stays until one in it finds.
+pub fn ring_stays() -> u8
+    ensures { λ _. ⌜ RING-STAYS ⌝ }
+{
+    0
+}
+
+// Own signs leave their engine's number and never pass what is shown.
+pub fn own_signs() -> u8
+    ensures { λ _. ⌜ OWN-SIGNS ⌝ }
+{
+    0
+}
+
+// What is shown only rises.
+pub fn only_up() -> u8
+    ensures { λ _. ⌜ ONLY-UP ⌝ }
+{
+    0
+}
