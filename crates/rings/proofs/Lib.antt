@@ -3,3 +3,4 @@ pub mod Tidy
 pub mod Relays
 pub mod Stays
 pub mod Tied
+pub mod Covered

@@ -1,5 +1,5 @@
 // The promises of the net of engines that wait for one another and tell signs, each carried by a function's contract.
-ghost use Rattle.rings.specs.Promise.{REAL, ONLY-HIGHEST, ONE-FINDER, RING-STAYS, OWN-SIGNS, ONLY-UP};
+ghost use Rattle.rings.specs.Promise.{REAL, ONLY-HIGHEST, ONE-FINDER, RING-STAYS, OWN-SIGNS, ONLY-UP, CODE-STEPS};
 
 // Whoever finds is in a ring of waits at that very moment, however late what it heard was told.
 pub fn real() -> u8
@@ -39,6 +39,13 @@ pub fn own_signs() -> u8
 // What is shown only rises.
 pub fn only_up() -> u8
     ensures { λ _. ⌜ ONLY-UP ⌝ }
+{
+    0
+}
+
+// What `begin`, `hear` and `find` give is a step of the net.
+pub fn code_steps() -> u8
+    ensures { λ _. ⌜ CODE-STEPS ⌝ }
 {
     0
 }
