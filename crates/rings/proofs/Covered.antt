@@ -53,9 +53,9 @@ module _ {engines : ℕ} {n m : Net} (order : Tidy engines n) (step : Step engin
     covered-kept : AllCovered m
     covered-kept =
         record {
-            shows = λ x. shows-kept (did step x);
-            told =
-                λ t h. elim (said step t h) [ inl before ↦ kept (old .told t before) | inr now ↦ rw (now .0) (shows-kept (did step (t .by))) ]
+          shows = λ x. shows-kept (did step x);
+          told =
+              λ t h. elim (said step t h) [ inl before ↦ kept (old .told t before) | inr now ↦ rw (now .0) (shows-kept (did step (t .by))) ];
         }
 
 pub covered : {engines : ℕ} {n : Net} → Reach engines n → AllCovered n
@@ -109,7 +109,7 @@ top {n} (more {i = i} j w a) = higher (top a)
         (k : ℕ) × ((i ≡ k) ⊎ Along n i k) × Each (λ x. n .engine x .own ≤ n .engine k .own) (more j w a)
     higher t =
         elim (cases-lt (n .engine (t .0) .own) (n .engine i .own)) [
-            inl up ↦ (i, inl refl, (omega arith, each-up _ _ (λ x h. omega arith) a (t .2)))
+          | inl up ↦ (i, inl refl, (omega arith, each-up _ _ (λ x h. omega arith) a (t .2)))
           | inr down ↦ (t .0, inr (elim (t .1) [ inl q ↦ one (w ∙ ap For q) | inr p ↦ more j w p ]), (down, t .2))
         ]
 

@@ -24,7 +24,7 @@ for-nobody p q = let z : _≡_ {A = ℕ} 0 1 = cc in omega arith
 pub data Did (engines : ℕ) (n m : Net) (x : ℕ) : Type 0 where
   same : m .engine x ≡ n .engine x → Did engines n m x
   began : (j u : ℕ) → x < engines → j < engines → n .engine x .wait ≡ Nobody → n .engine x .shown < u → u % engines ≡ x →
-    m .engine x ≡ begun (n .engine x) j u → Did engines n m x
+      m .engine x ≡ begun (n .engine x) j u → Did engines n m x
   left : (j : ℕ) → n .engine x .wait ≡ For j → n .engine j .wait ≡ Nobody → m .engine x ≡ idle (n .engine x) → Did engines n m x
   heard : (j s : ℕ) → Came n x j s → n .engine x .wait ≡ For j → n .engine x .shown < s → m .engine x ≡ showing (n .engine x) s → Did engines n m x
   found : (j : ℕ) → Finds n x j → m .engine x ≡ idle (n .engine x) → Did engines n m x
@@ -34,7 +34,7 @@ at-place : {engines : ℕ} (n : Net) (i : ℕ) (e : Engine) (x : ℕ) →
     (with i e n .engine i ≡ e → Did engines n (with i e n) i) → Did engines n (with i e n) x
 at-place n i e x f =
     elim (cases-eq x i) [
-        inl q ↦ rw q (f (cond-true (eqb i i) e (n .engine i) (eq-eqb i i refl)))
+      | inl q ↦ rw q (f (cond-true (eqb i i) e (n .engine i) (eq-eqb i i refl)))
       | inr q ↦ same (cond-false (eqb x i) e (n .engine x) (ne-eqb x i q))
     ]
 

@@ -4,3 +4,6 @@ pub mod Relays
 pub mod Stays
 pub mod Tied
 pub mod Covered
+pub mod Kept
+pub mod Told
+pub mod Carried

@@ -18,7 +18,7 @@ use Rattle.rings.proofs.Tidy.{Tidy, tidy, wait-of, shown-of, own-of}
 pub data Relays (n : Net) (z : ℕ) : ℕ → Type 0 where
   here : Relays n z z
   via : {x : ℕ} (y : ℕ) → n .engine x .wait ≡ For y → n .engine x .own < n .engine z .own → n .engine z .own ≤ n .engine x .shown → Relays n z y →
-    Relays n z x
+      Relays n z x
 
 relayer-waits : {n : Net} {z x v : ℕ} → n .engine z .wait ≡ For v → Relays n z x → n .engine x .wait ≡ Nobody → ⊥
 relayer-waits w here f = for-nobody w f
@@ -95,8 +95,8 @@ module _ {engines : ℕ} {n m : Net} (order : Tidy engines n) (after : Tidy engi
   relayed-kept : Relayed engines m
   relayed-kept =
       record {
-          shows = λ z v w x h e. shows-kept z x h e (since w (did step z));
-          told = λ z v w t h q. told-kept z t (said step t h) q (since w (did step z))
+        shows = λ z v w x h e. shows-kept z x h e (since w (did step z));
+        told = λ z v w t h q. told-kept z t (said step t h) q (since w (did step z));
       }
 
 pub relayed : {engines : ℕ} {n : Net} → Reach engines n → Relayed engines n

@@ -35,7 +35,7 @@ rest (more y w a) e = rw (for-same e w) (inr (a, refl))
 pub rotate : {n : Net} {i j : ℕ} (a : InRing n i) → n .engine i .wait ≡ For j → (b : InRing n j) × (long b ≡ long a)
 rotate {n} {i} {j} a e =
     elim (rest a e) [
-        inl p ↦ (one (ap (λ (x : ℕ). n .engine x .wait) (p .0) ∙ e), sym (p .1))
+      | inl p ↦ (one (ap (λ (x : ℕ). n .engine x .wait) (p .0) ∙ e), sym (p .1))
       | inr p ↦ (snoc (p .0) e, long-snoc (p .0) e ∙ sym (p .1))
     ]
 
@@ -43,6 +43,12 @@ rotate {n} {i} {j} a e =
 pub turn : {n : Net} {i l : ℕ} (a : InRing n i) → Along n i l → (b : InRing n l) × (long b ≡ long a)
 turn a (one w) = rotate a w
 turn a (more j w c) = let r : (b : InRing _ j) × (long b ≡ long a) = rotate a w in let t = turn (r .0) c in (t .0, t .1 ∙ r .1)
+
+-- in a ring waits lead back from wherever they led
+pub home : {n : Net} {i l : ℕ} → InRing n i → Along n i l → Along n l i
+home a (one w) = elim (rest a w) [ inl p ↦ rw (p .0) a | inr p ↦ p .0 ]
+home a (more j w c) =
+    elim (rest a w) [ inl p ↦ rw (← p .0) (home (rotate a w .0) c) | inr p ↦ join (home (rotate a w .0) c) (p .0) ]
 
 -- whoever waits lead on from waits
 pub waits : {n : Net} {i j : ℕ} → Along n i j → n .engine i .wait ≡ Nobody → ⊥
@@ -87,7 +93,7 @@ way-kept {n = n} {m = m} {i = i} {l = l} step a (more j w b) =
 pub ring-stays : RING-STAYS
 ring-stays engines n m r step i a =
     elim (way-kept step a a) [
-        inl b ↦ inl b
+      | inl b ↦ inl b
       | inr f ↦ inr (f .0, f .3 .0, elim (f .2) [ inl q ↦ rw q (f .1) | inr c ↦ c ], f .3 .1, f .3 .2)
     ]
 

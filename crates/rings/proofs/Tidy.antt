@@ -49,11 +49,11 @@ own-rises h (found j f q) = omega (arith, own-of q)
 tidy-start : (engines : ℕ) → Tidy engines start
 tidy-start engines =
     record {
-        leaves = λ i h. mod-eq-of-lt h;
-        low = λ i. omega arith;
-        waiter = λ i j w. absurd (for-nobody w refl);
-        kin = λ i h. rw (mod-eq-of-lt h) (omega arith);
-        kin-told = λ t h. absurd (List·Memᴰ·not-nil h)
+      leaves = λ i h. mod-eq-of-lt h;
+      low = λ i. omega arith;
+      waiter = λ i j w. absurd (for-nobody w refl);
+      kin = λ i h. rw (mod-eq-of-lt h) (omega arith);
+      kin-told = λ t h. absurd (List·Memᴰ·not-nil h);
     }
 
 module _ {engines : ℕ} {n m : Net} (old : Tidy engines n) (step : Step engines n m) where
@@ -95,16 +95,16 @@ module _ {engines : ℕ} {n m : Net} (old : Tidy engines n) (step : Step engines
   tidy-kept : Tidy engines m
   tidy-kept =
       record {
-          leaves = λ i h. leaves-kept h (did step i);
-          low = λ i. low-kept (did step i);
-          waiter = λ i j w. waiter-kept w (did step i);
-          kin = λ i h. kin-kept h (did step i);
-          kin-told =
-              λ t h.
-              elim (said step t h) [
-                  inl before ↦ still-kin _ _ refl (old .kin-told t before)
-                | inr now ↦ rw (now .0) (kin-kept (waiter-kept (now .1) (did step (t .to)) .1) (did step (t .by)))
-              ]
+        leaves = λ i h. leaves-kept h (did step i);
+        low = λ i. low-kept (did step i);
+        waiter = λ i j w. waiter-kept w (did step i);
+        kin = λ i h. kin-kept h (did step i);
+        kin-told =
+            λ t h.
+            elim (said step t h) [
+              | inl before ↦ still-kin _ _ refl (old .kin-told t before)
+              | inr now ↦ rw (now .0) (kin-kept (waiter-kept (now .1) (did step (t .to)) .1) (did step (t .by)))
+            ];
       }
 
 pub tidy : {engines : ℕ} {n : Net} → Reach engines n → Tidy engines n

@@ -37,19 +37,19 @@ begin-step engines n e i j free =
     cond-both (outOfRange i engines j) _ _ (λ (r : Result Engine Refusal). r ≡ Ok e → Step engines n (with i e n))
     (λ t q. absurd (refused q))
     (λ known.
-        cond-both (eqb j i) _ _ (λ (r : Result Engine Refusal). r ≡ Ok e → Step engines n (with i e n))
-        (λ t q. absurd (refused q))
-        (λ other.
-            cond-both (hasRoom (n .engine i) u) _ _ (λ (r : Result Engine Refusal). r ≡ Ok e → Step engines n (with i e n))
-            (λ t q.
-                let after : e ≡ begun (n .engine i) j u = cc in
-                let below : i < engines = in-range engines i j known .0 in
-                let whom : j < engines = in-range engines i j known .1 in
-                rw after
-                (begins n i j u below whom (λ p. eqb-false j i other (sym p)) free
-                (own-is-lowest (n .engine i .shown) i engines below .above)
-                (own-is-lowest (n .engine i .shown) i engines below .leaves)))
-            (λ t q. absurd (refused q))))
+    cond-both (eqb j i) _ _ (λ (r : Result Engine Refusal). r ≡ Ok e → Step engines n (with i e n))
+    (λ t q. absurd (refused q))
+    (λ other.
+    cond-both (hasRoom (n .engine i) u) _ _ (λ (r : Result Engine Refusal). r ≡ Ok e → Step engines n (with i e n))
+    (λ t q.
+    let after : e ≡ begun (n .engine i) j u = cc in
+    let below : i < engines = in-range engines i j known .0 in
+    let whom : j < engines = in-range engines i j known .1 in
+    rw after
+    (begins n i j u below whom (λ p. eqb-false j i other (sym p)) free
+    (own-is-lowest (n .engine i .shown) i engines below .above)
+    (own-is-lowest (n .engine i .shown) i engines below .leaves)))
+    (λ t q. absurd (refused q))))
 
 for-whom : (w : Wait) (j : ℕ) → isFor w j ≡ true → w ≡ For j
 for-whom Nobody j q = let z : _≡_ {A = ℕ} 0 1 = cc in absurd (omega arith)
@@ -78,12 +78,12 @@ hear-step engines n e t s h =
     let P : Result (Engine × Heard) Refusal → Type 0 = λ r. r ≡ Ok (e, TellOn s) → Step engines n (with (t .to) e n) in
     cond-both (waitsBy x (t .by) (t .count)) _ _ P
     (λ w.
-        cond-both (ltb (x .shown) (t .sign)) _ _ P
-        (λ up q.
-            let after : e ≡ showing x (t .sign) = sym (ap (λ (z : Engine × Heard). z .0) (ok-same q)) in
-            rw after
-            (hears n (t .to) (t .by) (t .sign) (came n t h (of-wait n t w .1)) (of-wait n t w .0) (ltb-true (x .shown) (t .sign) up)))
-        (λ up q. absurd (passed-tell (ap (λ (z : Engine × Heard). z .1) (ok-same q)))))
+    cond-both (ltb (x .shown) (t .sign)) _ _ P
+    (λ up q.
+    let after : e ≡ showing x (t .sign) = sym (ap (λ (z : Engine × Heard). z .0) (ok-same q)) in
+    rw after
+    (hears n (t .to) (t .by) (t .sign) (came n t h (of-wait n t w .1)) (of-wait n t w .0) (ltb-true (x .shown) (t .sign) up)))
+    (λ up q. absurd (passed-tell (ap (λ (z : Engine × Heard). z .1) (ok-same q)))))
     (λ w q. absurd (refused q))
 
 find-step : (engines : ℕ) (n : Net) (e : Engine) (t : Tell) → List·Memᴰ t (n .sent) →
@@ -93,14 +93,14 @@ find-step engines n e t h =
     let P : Result (Engine × Heard) Refusal → Type 0 = λ r. r ≡ Ok (e, Found) → Step engines n (with (t .to) e n) in
     cond-both (waitsBy x (t .by) (t .count)) _ _ P
     (λ w.
-        cond-both (eqb (t .sign) (x .own) && eqb (x .shown) (x .own)) _ _ P
-        (λ own q.
-            let after : e ≡ idle x = sym (ap (λ (z : Engine × Heard). z .0) (ok-same q)) in
-            let both = and-parts (eqb (t .sign) (x .own)) (eqb (x .shown) (x .own)) own in
-            rw after
-            (finds n (t .to) (t .by)
-            (rw (eqb-true (t .sign) (x .own) (both .0)) at (came n t h (of-wait n t w .1)), of-wait n t w .0, eqb-true (x .shown) (x .own) (both .1))))
-        (λ own q. absurd (passed-found (ap (λ (z : Engine × Heard). z .1) (ok-same q)))))
+    cond-both (eqb (t .sign) (x .own) && eqb (x .shown) (x .own)) _ _ P
+    (λ own q.
+    let after : e ≡ idle x = sym (ap (λ (z : Engine × Heard). z .0) (ok-same q)) in
+    let both = and-parts (eqb (t .sign) (x .own)) (eqb (x .shown) (x .own)) own in
+    rw after
+    (finds n (t .to) (t .by)
+    (rw (eqb-true (t .sign) (x .own) (both .0)) at (came n t h (of-wait n t w .1)), of-wait n t w .0, eqb-true (x .shown) (x .own) (both .1))))
+    (λ own q. absurd (passed-found (ap (λ (z : Engine × Heard). z .1) (ok-same q)))))
     (λ w q. absurd (refused q))
 
 pub code-steps : CODE-STEPS

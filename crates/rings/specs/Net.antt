@@ -51,7 +51,7 @@ Finds n i j = Came n i j (n .engine i .own) × (n .engine i .wait ≡ For j) × 
 pub data Step (engines : ℕ) : Net → Net → Type 0 where
   -- the own sign is any number above the one shown that leaves the engine's number: the code takes the lowest
   begins : (n : Net) (i j u : ℕ) → i < engines → j < engines → (i ≡ j → ⊥) → n .engine i .wait ≡ Nobody → n .engine i .shown < u → u % engines ≡ i →
-    Step engines n (with i (begun (n .engine i) j u) n)
+      Step engines n (with i (begun (n .engine i) j u) n)
   -- only one that doesn't wait itself lets others go on
   goesOn : (n : Net) (i j : ℕ) → n .engine i .wait ≡ For j → n .engine j .wait ≡ Nobody → Step engines n (with i (idle (n .engine i)) n)
   tells : (n : Net) (i j : ℕ) → n .engine i .wait ≡ For j → Step engines n (told n i j)
@@ -91,7 +91,7 @@ pub data Telling (n : Net) : ℕ → Net → Type 0 where
   none : Telling n 0 n
   tell : {c : ℕ} {m : Net} → Telling n c m → (i j : ℕ) → m .engine i .wait ≡ For j → Telling n (suc c) (told m i j)
   hear : {c : ℕ} {m : Net} → Telling n c m → (i j s : ℕ) → Came m i j s → m .engine i .wait ≡ For j → m .engine i .shown < s →
-    Telling n c (with i (showing (m .engine i) s) m)
+      Telling n c (with i (showing (m .engine i) s) m)
 
 -- at one of the run's steps k finds and gives up
 abbrev pub FoundIn : {engines : ℕ} {n m : Net} → Run engines n m → ℕ → Type 0
@@ -108,9 +108,9 @@ pub data Carried (engines : ℕ) (n : Net) (k : ℕ) : (m : Net) → Run engines
   opens : Carried engines n k n still (shows k)
   meanwhile : {m o : Net} {r : Run engines n m} {g : Stage} → Carried engines n k m r g → (s : Step engines m o) → Carried engines n k o (onward r s) g
   tellOn : {m : Net} {r : Run engines n m} {j : ℕ} → Carried engines n k m r (shows j) → (i : ℕ) (w : m .engine i .wait ≡ For j) →
-    Carried engines n k (told m i j) (onward r (tells m i j w)) (underway i j (m .engine j .shown))
+      Carried engines n k (told m i j) (onward r (tells m i j w)) (underway i j (m .engine j .shown))
   heard : {m : Net} {r : Run engines n m} {i j s : ℕ} → Carried engines n k m r (underway i j s) →
-    (c : Came m i j s) (w : m .engine i .wait ≡ For j) (up : m .engine i .shown < s) →
-    Carried engines n k (with i (showing (m .engine i) s) m) (onward r (hears m i j s c w up)) (shows i)
+      (c : Came m i j s) (w : m .engine i .wait ≡ For j) (up : m .engine i .shown < s) →
+      Carried engines n k (with i (showing (m .engine i) s) m) (onward r (hears m i j s c w up)) (shows i)
   -- one that shows as high a sign already passes it over
   passed : {m : Net} {r : Run engines n m} {i j s : ℕ} → Carried engines n k m r (underway i j s) → s ≤ m .engine i .shown → Carried engines n k m r (shows i)

@@ -56,11 +56,11 @@ FOUND-IN-ANY-RUN =
 pub record CodeSteps (engines : ℕ) (n : Net) (e : Engine) : Type 0 where
   pub begins : (i j : ℕ) → n .engine i .wait ≡ Nobody → beginOf (n .engine i) i engines j ≡ Ok e → Step engines n (with i e n)
   pub hears :
-    (t : Tell) (s : ℕ) → List·Memᴰ t (n .sent) → hearOf (n .engine (t .to)) (t .by) (t .count) (t .sign) ≡ Ok (e, TellOn s) →
-    Step engines n (with (t .to) e n)
+      (t : Tell) (s : ℕ) → List·Memᴰ t (n .sent) → hearOf (n .engine (t .to)) (t .by) (t .count) (t .sign) ≡ Ok (e, TellOn s) →
+      Step engines n (with (t .to) e n)
   pub finds :
-    (t : Tell) → List·Memᴰ t (n .sent) → findOf (n .engine (t .to)) (t .by) (t .count) (t .sign) ≡ Ok (e, Found) →
-    Step engines n (with (t .to) e n)
+      (t : Tell) → List·Memᴰ t (n .sent) → findOf (n .engine (t .to)) (t .by) (t .count) (t .sign) ≡ Ok (e, Found) →
+      Step engines n (with (t .to) e n)
 
 abbrev pub CODE-STEPS : Type 0
 CODE-STEPS = (engines : ℕ) (n : Net) (e : Engine) → CodeSteps engines n e

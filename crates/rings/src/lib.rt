@@ -1,5 +1,5 @@
 // The promises of the net of engines that wait for one another and tell signs, each carried by a function's contract.
-ghost use Rattle.rings.specs.Promise.{REAL, ONLY-HIGHEST, ONE-FINDER, RING-STAYS, OWN-SIGNS, ONLY-UP, CODE-STEPS};
+ghost use Rattle.rings.specs.Promise.{REAL, ONLY-HIGHEST, ONE-FINDER, RING-STAYS, OWN-SIGNS, ONLY-UP, CODE-STEPS, FOUND, FOUND-IN-ANY-RUN};
 
 // Whoever finds is in a ring of waits at that very moment, however late what it heard was told.
 pub fn real() -> u8
@@ -46,6 +46,20 @@ pub fn only_up() -> u8
 // What `begin`, `hear` and `find` give is a step of the net.
 pub fn code_steps() -> u8
     ensures { λ _. ⌜ CODE-STEPS ⌝ }
+{
+    0
+}
+
+// Every ring is found by telling and hearing alone, with as many tellings as it has engines.
+pub fn found() -> u8
+    ensures { λ _. ⌜ FOUND ⌝ }
+{
+    0
+}
+
+// A ring is found in any run in which its highest own sign is told round once, in order.
+pub fn found_in_any_run() -> u8
+    ensures { λ _. ⌜ FOUND-IN-ANY-RUN ⌝ }
 {
     0
 }
