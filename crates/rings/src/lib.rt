@@ -1,4 +1,5 @@
 // The promises of the net of engines that wait for one another and tell signs, each carried by a function's contract.
+ghost use Rattle.rings.specs.Cases.{CASES};
 ghost use Rattle.rings.specs.Promise.{REAL, ONLY-HIGHEST, ONE-FINDER, RING-STAYS, OWN-SIGNS, ONLY-UP, CODE-STEPS, FOUND, FOUND-IN-ANY-RUN};
 
 // Whoever finds is in a ring of waits at that very moment, however late what it heard was told.
@@ -60,6 +61,13 @@ pub fn found() -> u8
 // A ring is found in any run in which its highest own sign is told round once, in order.
 pub fn found_in_any_run() -> u8
     ensures { λ _. ⌜ FOUND-IN-ANY-RUN ⌝ }
+{
+    0
+}
+
+// The worked cases of four engines give what their rows say.
+pub fn worked_cases() -> u8
+    ensures { λ _. ⌜ CASES ⌝ }
 {
     0
 }
