@@ -5,6 +5,7 @@ ghost use mathlib.Core.List.{[], map};
 ghost use Rattle.std.specs.Of.Vec.{vec-items};
 ghost use Rattle.std.specs.Options.{mapped};
 ghost use Rattle.std.specs.Vec.{made};
+ghost use Rattle.ring_search.specs.Exactly.{Exactly};
 ghost use Rattle.ring_search.specs.Search.{waitOf, ownOf, afterOf, chase, higherOf, bestOf, ringAt, more, ringsBelow, model};
 use signs::Wait;
 use signs::table::ENGINES;
@@ -125,8 +126,8 @@ fn add(found: &mut Vec<Ring>, ring: Option<Ring>) -> Result<(), AllocError>
     Ok(())
 }
 
-// Every ring, by its lowest engine.
-pub fn rings(heap: Global, table: &Engines) -> Result<Vec<Ring>, AllocError>
+// Every engine in turn: the rings of which it is the lowest.
+fn search(heap: Global, table: &Engines) -> Result<Vec<Ring>, AllocError>
     ensures { λ r. ⌜ made r (λ v. map model (vec-items v) ≡ ringsBelow (waitOf (now (table .entry))) (ownOf (now (table .entry))) 64) ⌝ }
 {
     let mut found = Vec::new(heap);
@@ -134,4 +135,11 @@ pub fn rings(heap: Global, table: &Engines) -> Result<Vec<Ring>, AllocError>
         add(&mut found, ring_at(heap, table, e)?)?;
     }
     Ok(found)
+}
+
+// Exactly the rings of the table, by their lowest engine.
+pub fn rings(heap: Global, table: &Engines) -> Result<Vec<Ring>, AllocError>
+    ensures { λ r. ⌜ made r (λ v. Exactly (waitOf (now (table .entry))) (ownOf (now (table .entry))) (map model (vec-items v))) ⌝ }
+{
+    search(heap, table)
 }

@@ -1,16 +1,16 @@
--- One engine more: the ring of which it is the lowest, if there is one, comes last.
+-- What the search gives is exactly the rings.
 -- Assumes nothing.
-use mathlib.Core.Path.{_≡_, refl, sym, ap, _∙_}
-use mathlib.Core.List.{map}
-use Rattle.ring_search.specs.Search.{waitOf, ownOf, model}
-use Rattle.ring_search.proofs.Chase.{rings-step, rings-none}
+use mathlib.Core.Path.{_≡_}
+use mathlib.Core.List.{List, map}
+use Rattle.std.specs.Of.Vec.{vec-items}
+use Rattle.std.proofs.shelf.Results.{made-weaker}
+use Rattle.ring_search.specs.Search.{Judged, waitOf, ownOf, ringsBelow, model}
+use Rattle.ring_search.specs.Exactly.{Exactly}
+use Rattle.ring_search.proofs.Exact.{exactly-the-rings}
 use Rattle.ring_search.proofs.rings.Needs as need
 
-pub loop-e-holds : need.loop-e-holds
-loop-e-holds c =
-    ap (map model) (c .new-found .ensures .items) ∙ sym (rings-none (waitOf (c .args .table .now)) (ownOf (c .args .table .now)))
-
-pub loop-e-again : need.loop-e-again
-loop-e-again c =
-    rings-step (waitOf (c .args .table .now)) (ownOf (c .args .table .now)) (c .loop-e .e) (c .in-Continue-add .ensures tt) (c .loop-e .inv)
-    (c .in-Continue-ring-at .ensures tt)
+pub returns : need.returns
+returns c =
+    let t = c .args .table .now in
+    made-weaker (c .search .result) (λ v. map model (vec-items v) ≡ ringsBelow (waitOf t) (ownOf t) 64)
+    (λ v. Exactly (waitOf t) (ownOf t) (map model (vec-items v))) (λ v q. rw q (exactly-the-rings t)) (c .search .ensures)
