@@ -13,6 +13,8 @@ use signs::table::Engines;
 use std::alloc::AllocError;
 use std::alloc::Global;
 
+pub mod listing;
+
 // The engines of a ring from its lowest on, each waiting for the next and the last for the first, and the one with the highest own sign.
 #[derive(Drop)]
 pub struct Ring {
