@@ -16,11 +16,18 @@ pub struct Entry {
     pub own: u64,
 }
 
-// The engines as listed, and the number of the line of each; 0 for one that has none.
+// Has an engine a line.
+#[derive(Clone, Copy)]
+pub enum Line {
+    Missing,
+    Read,
+}
+
+// The engines as listed; one that has no line waits for nobody.
 #[derive(Clone, Copy)]
 pub struct Listing {
     engines: Engines,
-    lines: [u64; 64],
+    lines: [Line; 64],
 }
 
 fn known(wait: Wait) -> bool
@@ -33,11 +40,11 @@ fn known(wait: Wait) -> bool
 }
 
 impl Listing {
-    // Nobody is listed yet, and one that isn't listed waits for nobody.
+    // No line is read yet.
     pub fn new() -> Listing
         ensures { λ r. ⌜ r ≡ emptyOf ⌝ }
     {
-        Listing { engines: Engines::new(), lines: [0; 64] }
+        Listing { engines: Engines::new(), lines: [Line::Missing; 64] }
     }
 
     pub fn engines(&self) -> Engines
@@ -50,11 +57,16 @@ impl Listing {
     pub fn add(&mut self, line: u64, entry: Entry) -> Result<(), u64>
         ensures { λ r. ⌜ (now (self .exit), r) ≡ addOf (now (self .entry)) line entry ⌝ }
     {
-        if entry.engine >= ENGINES || !known(entry.wait) || self.lines[entry.engine as usize] != 0 {
+        if entry.engine >= ENGINES || !known(entry.wait) {
+            return Err(line);
+        }
+        let i = entry.engine as usize;
+        let before = self.lines[i];
+        if let Line::Read = before {
             return Err(line);
         }
         let engine = Engine { wait: entry.wait, count: 0, shown: entry.shown, own: entry.own };
-        self.lines[entry.engine as usize] = line;
+        self.lines[i] = Line::Read;
         let _ = self.engines.put(entry.engine, engine);
         Ok(())
     }
