@@ -1,0 +1,5 @@
+pub mod Chase
+pub mod Lists
+pub mod Turned
+pub mod Sound
+pub mod Exact

@@ -1,0 +1,9 @@
+pub mod Did
+pub mod Tidy
+pub mod Relays
+pub mod Stays
+pub mod Tied
+pub mod Covered
+pub mod Kept
+pub mod Told
+pub mod Carried

@@ -1,0 +1,3 @@
+pub mod Net
+pub mod Promise
+pub mod Cases
