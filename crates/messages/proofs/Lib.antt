@@ -1,2 +1,7 @@
 pub mod Dispatch
 pub mod Writing
+pub mod Numbers
+pub mod Back
+pub mod Lengths
+pub mod Forms
+pub mod Cuts
