@@ -45,7 +45,7 @@ places-all (suc n) i xs is = drop-cons xs i 0 (omega arith) ∙ ap (λ (l : List
 pub spelled : (n : ℕ) (xs : List ℕ) → eqb (length xs) n ≡ true → xs ≡ places 0 n xs
 spelled n xs is = places-all n 0 xs (omega (arith, eqb-true (length xs) n is))
 
-clash : {A : Type 0} (x : A) → None ≡ Some x → ⊥
+pub clash : {A : Type 0} (x : A) → None ≡ Some x → ⊥
 clash x p = let z : _≡_ {A = ℕ} 0 1 = cc in omega arith
 
 pub when : {A : Type 0} (t : Bool) (o : Option A) (x : A) → unless t o ≡ Some x → (t ≡ true) × (o ≡ Some x)

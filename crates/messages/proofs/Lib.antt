@@ -5,3 +5,4 @@ pub mod Back
 pub mod Lengths
 pub mod Forms
 pub mod Cuts
+pub mod Decided

@@ -5,8 +5,12 @@ use Prim.Native.Nat.{ℕ, _<_}
 use lib.ListN.{getD}
 use Rattle.std.specs.declared.option.Option.{Option}
 use Rattle.std.specs.declared.option.Option.the-variants.{Some, None}
+use Rattle.std.specs.declared.result.Result.{Result}
+use Rattle.std.specs.declared.result.Result.the-variants.{Ok, Err}
 use Rattle.messages.specs.declared.yard.Yard.{Yard}
 use Rattle.messages.specs.declared.message.Message.{Message}
+use Rattle.messages.specs.declared.message.Refusal.{Refusal}
+use Rattle.messages.specs.declared.message.Refusal.the-variants as refusal
 use Rattle.messages.specs.Range.{MessageIn}
 use Rattle.messages.specs.Reading.{messageOf}
 use Rattle.messages.specs.Table.{bytesOf}
@@ -30,3 +34,8 @@ NONE-BEGINS-ANOTHER = (m n : Message) (more : List ℕ) → bytesOf m ++ more �
 -- every proper first part of a message's bytes is turned away
 abbrev pub CUT-REFUSED : Type 0
 CUT-REFUSED = (y : Yard) (m : Message) (front rest : List ℕ) → MessageIn y m → front ++ rest ≡ bytesOf m → (rest ≡ [] → ⊥) → messageOf y front ≡ None
+
+-- what the decoder answers: the message in range that is written so, or that there is none
+abbrev pub Decoded : Yard → List ℕ → Result Message Refusal → Type 0
+Decoded y xs (Ok m) = MessageIn y m × (bytesOf m ≡ xs)
+Decoded y xs (Err e) = (e ≡ refusal.Malformed) × ((m : Message) → MessageIn y m → bytesOf m ≡ xs → ⊥)
