@@ -6,3 +6,4 @@ pub mod Lengths
 pub mod Forms
 pub mod Cuts
 pub mod Decided
+pub mod Journal
