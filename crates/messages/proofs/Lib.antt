@@ -7,3 +7,4 @@ pub mod Forms
 pub mod Cuts
 pub mod Decided
 pub mod Journal
+pub mod Fronts

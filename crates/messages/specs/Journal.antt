@@ -63,3 +63,24 @@ abbrev pub FirstIs : Yard → List ℕ → First → Type 0
 FirstIs y xs (first.Whole r n) = RecordIn y r × (recordBytes r ++ drop n xs ≡ xs) × (n ≡ length (recordBytes r))
 FirstIs y xs first.Cut = Short xs
 FirstIs y xs first.Damaged = (Short xs → ⊥) × ((r : Record) (rest : List ℕ) → RecordIn y r → recordBytes r ++ rest ≡ xs → ⊥)
+
+-- records, one after another
+abbrev pub written : List Record → List ℕ
+written [] = []
+written (r ∷ rs) = recordBytes r ++ written rs
+
+abbrev pub AllIn : Yard → List Record → Type 0
+AllIn y [] = Unit {0}
+AllIn y (r ∷ rs) = RecordIn y r × AllIn y rs
+
+-- a file that has these records, and after them at most the beginning of one
+abbrev pub Holds : Yard → List ℕ → List Record → List ℕ → Type 0
+Holds y xs rs tail = AllIn y rs × (written rs ++ tail ≡ xs) × Short tail
+
+-- every proper first part of a record's bytes is short
+abbrev pub CUT-IS-SHORT : Type 0
+CUT-IS-SHORT = (r : Record) (front rest : List ℕ) → front ++ rest ≡ recordBytes r → (rest ≡ [] → ⊥) → Short front
+
+-- a file has one list of records, and one beginning after it
+abbrev pub ONE-LIST : Type 0
+ONE-LIST = (y : Yard) (xs : List ℕ) (rs qs : List Record) (t u : List ℕ) → Holds y xs rs t → Holds y xs qs u → (rs ≡ qs) × (t ≡ u)
