@@ -1,0 +1,36 @@
+// Messages between boxes and records of a box's file: their bytes, and what is turned away.
+mod decoder;
+mod encoded;
+mod encoder;
+mod message;
+mod promises;
+mod records;
+mod yard;
+
+pub use decoder::decode;
+pub use encoded::Encoded;
+pub use encoded::LONGEST;
+pub use encoder::encode;
+pub use message::Act;
+pub use message::Call;
+pub use message::Holder;
+pub use message::Message;
+pub use message::Record;
+pub use message::Refusal;
+pub use message::Reply;
+pub use promises::cut_is_short;
+pub use promises::cut_refused;
+pub use promises::none_begins_another;
+pub use promises::one_form;
+pub use promises::one_list;
+pub use promises::reads_back;
+pub use records::First;
+pub use records::Replay;
+pub use records::Unread;
+pub use records::reading::encode_record;
+pub use records::reading::first_record;
+pub use records::reading::read_records;
+pub use yard::BoxNumber;
+pub use yard::Engine;
+pub use yard::Section;
+pub use yard::Yard;
