@@ -21,7 +21,7 @@ pub record Kept (x : Section) : Type 0 where
   -- who had it since i came is not i, nor before i, nor has it now
   pub turn : (i n h : ℕ) → List·Memᴰ i (x .queue) → x .came i ≤ n → n < x .change → x .past n ≡ by h → (x .holder ≡ by h → ⊥) × (Upto h i (x .queue) → ⊥)
 
-by≢free : (h : Holder) (i : ℕ) → h ≡ by i → h ≡ free → ⊥
+pub by≢free : (h : Holder) (i : ℕ) → h ≡ by i → h ≡ free → ⊥
 by≢free h i p q = let z : _≡_ {A = ℕ} 0 1 = cc in omega arith
 
 now-handed : (h : Holder) (x : Section) → put (suc (x .change)) h (x .past) (suc (x .change)) ≡ h
@@ -85,7 +85,7 @@ first-upto (x ∷ q) h e m = from (same x h e) (List·Memᴰ·tail m)
     same : (x h : ℕ) → by x ≡ by h → h ≡ x
     same x h p = cc
 
-first-in : (q : List ℕ) (h : ℕ) → first q ≡ by h → List·Memᴰ h q
+pub first-in : (q : List ℕ) (h : ℕ) → first q ≡ by h → List·Memᴰ h q
 first-in [] h e = absurd (by≢free free h e refl)
 first-in (x ∷ q) h e = List·Memᴰ·head (same x h e)
   where

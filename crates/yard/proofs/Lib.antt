@@ -1,2 +1,4 @@
 pub mod Queues
 pub mod InTurn
+pub mod Views
+pub mod Places
