@@ -2,3 +2,4 @@ pub mod Queues
 pub mod InTurn
 pub mod Views
 pub mod Places
+pub mod Signs

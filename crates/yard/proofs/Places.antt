@@ -171,8 +171,8 @@ module _ {engines : ℕ} {y : Yard} (p : Placed engines y) where
   busy-numbered i s a = elim (p .numbered i) [ inl e ↦ absurd (rw e at a) | inr l ↦ l ]
 
   -- engine by engine, before what became of the sections
-  about-did : {i s : ℕ} {e : Engine} → Did engines y i e → Queued y i s ⊎ ((mode y i ≡ asking s) × (holder y s ≡ by i → ⊥)) → About s (e .mode)
-  about-did {i} {s} d w = go d w (was w)
+  about-did : {z : Yard} {i s : ℕ} {e : Engine} → Did engines y z i e → Queued y i s ⊎ ((mode y i ≡ asking s) × (holder y s ≡ by i → ⊥)) → About s (e .mode)
+  about-did {z} {i} {s} d w = go d w (was w)
     where
       was : Queued y i s ⊎ ((mode y i ≡ asking s) × (holder y s ≡ by i → ⊥)) → About s (mode y i)
       was (inl m) = p .about i s m
@@ -180,22 +180,22 @@ module _ {engines : ℕ} {y : Yard} (p : Placed engines y) where
       out : Settled y i (mode y i) → Queued y i s ⊎ ((mode y i ≡ asking s) × (holder y s ≡ by i → ⊥)) → ⊥
       out d (inl m) = settled-out d m
       out d (inr v) = v .1 (rw (v .0) at d)
-      go : {e : Engine} → Did engines y i e → Queued y i s ⊎ ((mode y i ≡ asking s) × (holder y s ≡ by i → ⊥)) → About s (mode y i) → About s (e .mode)
+      go : {e : Engine} → Did engines y z i e → Queued y i s ⊎ ((mode y i ≡ asking s) × (holder y s ≡ by i → ⊥)) → About s (mode y i) → About s (e .mode)
       go nothing v a = a
       go (asked t g) v a = absurd (out (g .1) v)
       go (freed t g) v a = absurd (out (g .1) v)
-      go (began t j m u g) v a = about-one t s (mode y i) (unheard-about t m (mode y i) (g .0) .0) a
+      go (began t j m u g b) v a = about-one t s (mode y i) (unheard-about t m (mode y i) (g .0) .0) a
       go (heard j v2 g) v a = a
       go (found j t g) v a = rw (g .1 .1) at a
 
   -- who waits, as its home has it, stood in the queue or had the section, and its view was true since it came
-  viewed : {i j s m : ℕ} {e : Engine} → Did engines y i e → e .mode ≡ waiting j s m →
+  viewed : {z : Yard} {i j s m : ℕ} {e : Engine} → Did engines y z i e → e .mode ≡ waiting j s m →
       (Queued y i s ⊎ (holder y s ≡ by i)) × ((mode y i ≡ leaving s → ⊥) × (mode y i ≡ freeing s → ⊥)) ×
       ((i ≡ j → ⊥) × (y .section s .past m ≡ by j) × (m ≤ y .section s .change) × (Queued y i s → y .section s .came i ≤ m))
   viewed {i} {j} {s} {m} nothing e = (p .stands i j s m e, (waiting≢leaving e, waiting≢freeing e), p .view i j s m e)
   viewed (asked t g) e = absurd (waiting≢asking e refl)
   viewed (freed t g) e = absurd (waiting≢freeing e refl)
-  viewed {i} {j} {s} {m} (began t k n u g) e = rw (at-t, at-k, at-n) told
+  viewed {i} {j} {s} {m} (began t k n u g b) e = rw (at-t, at-k, at-n) told
     where
       at-t : s ≡ t
       at-t = cc
@@ -223,11 +223,11 @@ module _ {engines : ℕ} {y : Yard} (p : Placed engines y) where
       go : Queued y i s → x .came i ≤ m
       go o = rw (came-kept d o) (c o)
 
-  numbered-did : {i : ℕ} {e : Engine} → Did engines y i e → (e .mode ≡ none) ⊎ (i < engines)
+  numbered-did : {z : Yard} {i : ℕ} {e : Engine} → Did engines y z i e → (e .mode ≡ none) ⊎ (i < engines)
   numbered-did {i} nothing = p .numbered i
   numbered-did (asked t g) = inr (g .0)
   numbered-did {i} (freed t g) = inr (p .holders i t (g .0))
-  numbered-did {i} (began t j m u g) = inr (busy-numbered i t (unheard-about t m (mode y i) (g .0) .0))
+  numbered-did {i} (began t j m u g b) = inr (busy-numbered i t (unheard-about t m (mode y i) (g .0) .0))
   numbered-did {i} (heard j v g) = p .numbered i
   numbered-did {i} (found j t g) = inr (busy-numbered i t (rw (g .1 .1)))
 
