@@ -3,3 +3,4 @@ pub mod InTurn
 pub mod Views
 pub mod Places
 pub mod Signs
+pub mod Relays
