@@ -4,3 +4,5 @@ pub mod Views
 pub mod Places
 pub mod Signs
 pub mod Relays
+pub mod Covered
+pub mod Sound
