@@ -36,7 +36,7 @@ shown-is is = ap (λ (e : Engine). e .shown) is
 
 module _ {engines : ℕ} {y : Yard} (p : Placed engines y) (q : Signed engines y) (a : Act) (g : May engines y a) where
   -- who showed v or more and begins has an own sign above it; who only turns to another call is idle
-  idle-did : {v x : ℕ} {e : Engine} → after y a .engine x ≡ e → Did engines y (after y a) x e → Idle (mode y x) → v ≤ shown y x → Covered (after y a) v x
+  idle-did : {v x : ℕ} {e : Engine} → after y a .engine x ≡ e → Did engines y a x e → Idle (mode y x) → v ≤ shown y x → Covered (after y a) v x
   idle-did is nothing i l = idle-above (λ j s m e. i j s m (sym (mode-is is) ∙ e)) (let w = shown-is is in omega arith)
   idle-did is (asked t h) i l = idle-above (λ j s m e. waiting≢asking e (mode-is is)) (let w = shown-is is in omega arith)
   idle-did is (freed t h) i l = idle-above (λ j s m e. waiting≢freeing e (mode-is is)) (let w = shown-is is in omega arith)
@@ -44,7 +44,7 @@ module _ {engines : ℕ} {y : Yard} (p : Placed engines y) (q : Signed engines y
   idle-did is (heard j v h) i l = absurd (i _ _ _ (h .1 .1 .1))
   idle-did is (found j t h) i l = absurd (i _ _ _ (h .1 .1))
 
-  through-did : {v x j s m : ℕ} {e : Engine} → after y a .engine x ≡ e → Did engines y (after y a) x e → mode y x ≡ waiting j s m → v ≤ shown y x → Covered (after y a) v j → Covered (after y a) v x
+  through-did : {v x j s m : ℕ} {e : Engine} → after y a .engine x ≡ e → Did engines y a x e → mode y x ≡ waiting j s m → v ≤ shown y x → Covered (after y a) v j → Covered (after y a) v x
   through-did is nothing n l c = through _ _ _ (mode-is is ∙ n) (let w = shown-is is in omega arith) c
   through-did is (asked t h) n l c = idle-above (λ j s m e. waiting≢asking e (mode-is is)) (let w = shown-is is in omega arith)
   through-did is (freed t h) n l c = idle-above (λ j s m e. waiting≢freeing e (mode-is is)) (let w = shown-is is in omega arith)
@@ -57,7 +57,7 @@ module _ {engines : ℕ} {y : Yard} (p : Placed engines y) (q : Signed engines y
   covered-after (idle-above {x = x} i l) = idle-did refl (did engines y a g x) i l
   covered-after (through {x = x} j s m e l c) = through-did refl (did engines y a g x) e l (covered-after c)
 
-  shown-did : {x : ℕ} {e : Engine} → AllCovered y → after y a .engine x ≡ e → Did engines y (after y a) x e → Covered (after y a) (e .shown) x
+  shown-did : {x : ℕ} {e : Engine} → AllCovered y → after y a .engine x ≡ e → Did engines y a x e → Covered (after y a) (e .shown) x
   shown-did {x} r is nothing = covered-after (r .of-shown x)
   shown-did {x} r is (asked t h) = covered-after (r .of-shown x)
   shown-did {x} r is (freed t h) = covered-after (r .of-shown x)

@@ -7,7 +7,8 @@ use Prim.Native.Nat.{ℕ, suc, _<_, _≤_}
 use native.Mathlib.Omega.{arith}
 use Rattle.std.proofs.shelf.Tests.{cases-eq}
 use Rattle.yard.specs.Yard.{Holder, free, by, Section, Distinct, first, rest, handed, joined, left, put}
-use Rattle.yard.proofs.Queues.{at-put, put-other, in-end, in-without, distinct-end, distinct-without, distinct-rest, Upto, from, past, upto-in, upto-end, upto-without}
+use Rattle.yard.specs.Order.{Upto, from, past}
+use Rattle.yard.proofs.Queues.{at-put, put-other, in-end, in-without, distinct-end, distinct-without, distinct-rest, upto-in, upto-end, upto-without}
 
 -- what always holds of a section
 pub record Kept (x : Section) : Type 0 where
@@ -73,7 +74,7 @@ pub in-rest : {i : ℕ} (q : List ℕ) → List·Memᴰ i (rest q) → List·Mem
 in-rest [] m = m
 in-rest (x ∷ q) m = List·Memᴰ·tail m
 
-upto-rest : {k i : ℕ} (q : List ℕ) → Upto k i (rest q) → Upto k i q
+pub upto-rest : {k i : ℕ} (q : List ℕ) → Upto k i (rest q) → Upto k i q
 upto-rest [] u = u
 upto-rest (x ∷ q) u = past u
 

@@ -6,3 +6,4 @@ pub mod Signs
 pub mod Relays
 pub mod Covered
 pub mod Sound
+pub mod Promised

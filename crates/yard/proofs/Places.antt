@@ -171,8 +171,8 @@ module _ {engines : ℕ} {y : Yard} (p : Placed engines y) where
   busy-numbered i s a = elim (p .numbered i) [ inl e ↦ absurd (rw e at a) | inr l ↦ l ]
 
   -- engine by engine, before what became of the sections
-  about-did : {z : Yard} {i s : ℕ} {e : Engine} → Did engines y z i e → Queued y i s ⊎ ((mode y i ≡ asking s) × (holder y s ≡ by i → ⊥)) → About s (e .mode)
-  about-did {z} {i} {s} d w = go d w (was w)
+  about-did : {act : Act} {i s : ℕ} {e : Engine} → Did engines y act i e → Queued y i s ⊎ ((mode y i ≡ asking s) × (holder y s ≡ by i → ⊥)) → About s (e .mode)
+  about-did {act} {i} {s} d w = go d w (was w)
     where
       was : Queued y i s ⊎ ((mode y i ≡ asking s) × (holder y s ≡ by i → ⊥)) → About s (mode y i)
       was (inl m) = p .about i s m
@@ -180,7 +180,7 @@ module _ {engines : ℕ} {y : Yard} (p : Placed engines y) where
       out : Settled y i (mode y i) → Queued y i s ⊎ ((mode y i ≡ asking s) × (holder y s ≡ by i → ⊥)) → ⊥
       out d (inl m) = settled-out d m
       out d (inr v) = v .1 (rw (v .0) at d)
-      go : {e : Engine} → Did engines y z i e → Queued y i s ⊎ ((mode y i ≡ asking s) × (holder y s ≡ by i → ⊥)) → About s (mode y i) → About s (e .mode)
+      go : {e : Engine} → Did engines y act i e → Queued y i s ⊎ ((mode y i ≡ asking s) × (holder y s ≡ by i → ⊥)) → About s (mode y i) → About s (e .mode)
       go nothing v a = a
       go (asked t g) v a = absurd (out (g .1) v)
       go (freed t g) v a = absurd (out (g .1) v)
@@ -189,7 +189,7 @@ module _ {engines : ℕ} {y : Yard} (p : Placed engines y) where
       go (found j t g) v a = rw (g .1 .1) at a
 
   -- who waits, as its home has it, stood in the queue or had the section, and its view was true since it came
-  viewed : {z : Yard} {i j s m : ℕ} {e : Engine} → Did engines y z i e → e .mode ≡ waiting j s m →
+  viewed : {act : Act} {i j s m : ℕ} {e : Engine} → Did engines y act i e → e .mode ≡ waiting j s m →
       (Queued y i s ⊎ (holder y s ≡ by i)) × ((mode y i ≡ leaving s → ⊥) × (mode y i ≡ freeing s → ⊥)) ×
       ((i ≡ j → ⊥) × (y .section s .past m ≡ by j) × (m ≤ y .section s .change) × (Queued y i s → y .section s .came i ≤ m))
   viewed {i} {j} {s} {m} nothing e = (p .stands i j s m e, (waiting≢leaving e, waiting≢freeing e), p .view i j s m e)
@@ -223,7 +223,7 @@ module _ {engines : ℕ} {y : Yard} (p : Placed engines y) where
       go : Queued y i s → x .came i ≤ m
       go o = rw (came-kept d o) (c o)
 
-  numbered-did : {z : Yard} {i : ℕ} {e : Engine} → Did engines y z i e → (e .mode ≡ none) ⊎ (i < engines)
+  numbered-did : {act : Act} {i : ℕ} {e : Engine} → Did engines y act i e → (e .mode ≡ none) ⊎ (i < engines)
   numbered-did {i} nothing = p .numbered i
   numbered-did (asked t g) = inr (g .0)
   numbered-did {i} (freed t g) = inr (p .holders i t (g .0))

@@ -8,6 +8,7 @@ use Prim.Native.Nat.{ℕ}
 use lib.Dec.{eqb}
 use Rattle.std.proofs.shelf.Tests.{cases-eq, eqb-true, eqb-false, ne-eqb, cond-both}
 use Rattle.yard.specs.Yard.{put, without, rest, Distinct}
+use Rattle.yard.specs.Order.{Upto, from, past}
 
 -- a written place reads the new value, any other the old one
 pub at-put : {A : Type 0} (P : A → Type 0) (i : ℕ) (a : A) (f : ℕ → A) (j : ℕ) → (j ≡ i → P a) → ((j ≡ i → ⊥) → P (f j)) → P (put i a f j)
@@ -59,11 +60,6 @@ distinct-without j (x ∷ q) d = distinct-cut (eqb x j) (λ m. d .0 (in-without 
 pub distinct-rest : (q : List ℕ) → Distinct q → Distinct (rest q)
 distinct-rest [] d = d
 distinct-rest (x ∷ q) d = d .1
-
--- k is i, or stands before it
-pub data Upto (k i : ℕ) : List ℕ → Type 0 where
-  from : {q : List ℕ} {x : ℕ} → k ≡ x → List·Memᴰ i (x ∷ q) → Upto k i (x ∷ q)
-  past : {x : ℕ} {q : List ℕ} → Upto k i q → Upto k i (x ∷ q)
 
 pub upto-in : {k i : ℕ} {q : List ℕ} → Upto k i q → List·Memᴰ k q
 upto-in (from e m) = List·Memᴰ·head e

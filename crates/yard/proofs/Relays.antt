@@ -56,7 +56,7 @@ module _ {engines : ℕ} {y : Yard} (p : Placed engines y) (q : Signed engines y
       , elim (holder-after (moved engines y a g s) h) [ inl k ↦ k | inr f ↦ absurd (nf f) ] )
 
   -- who waits with the right view and shows a higher sign than its own can only hear
-  pub waiter-did : {z : Yard} {x j s m : ℕ} {e : Engine} → Did engines y z x e → mode y x ≡ waiting j s m → Queued y x s → holder y s ≡ by j → own y x < shown y x →
+  pub waiter-did : {act : Act} {x j s m : ℕ} {e : Engine} → Did engines y act x e → mode y x ≡ waiting j s m → Queued y x s → holder y s ≡ by j → own y x < shown y x →
       (e .mode ≡ waiting j s m) × (e .own ≡ own y x) × (shown y x ≤ e .shown)
   waiter-did nothing e w h l = (e, refl, omega arith)
   waiter-did (asked t k) e w h l = absurd (settled-out p (k .1) w)
@@ -78,7 +78,7 @@ module _ {engines : ℕ} {y : Yard} (p : Placed engines y) (q : Signed engines y
       via j s m (n .0) (v .0) (v .1) (omega arith) (omega arith) (relays-after z l k r)
 
   -- an own sign that counts did so before, or is above all that its engine showed
-  live-was : {z : Yard} {x : ℕ} {e : Engine} → Did engines y z x e → Live (e .mode) → (Live (mode y x) × (e .own ≡ own y x)) ⊎ ((shown y x < e .own) × (e .own % engines ≡ x))
+  live-was : {act : Act} {x : ℕ} {e : Engine} → Did engines y act x e → Live (e .mode) → (Live (mode y x) × (e .own ≡ own y x)) ⊎ ((shown y x < e .own) × (e .own % engines ≡ x))
   live-was nothing l = inl (l, refl)
   live-was (asked t k) l = absurd l
   live-was (freed t k) l = absurd l
@@ -91,7 +91,7 @@ module _ {engines : ℕ} {y : Yard} (p : Placed engines y) (q : Signed engines y
 
   module _ (r : Relayed engines y) where
     -- x shows the own sign of one whose sign counted before
-    shows-old : (x z : ℕ) (e : Engine) → after y a .engine x ≡ e → Did engines y (after y a) x e → x < engines → Live (mode (after y a) z) → Live (mode y z) → own (after y a) z ≡ own y z →
+    shows-old : (x z : ℕ) (e : Engine) → after y a .engine x ≡ e → Did engines y a x e → x < engines → Live (mode (after y a) z) → Live (mode y z) → own (after y a) z ≡ own y z →
         e .shown ≡ own y z → (d : ℕ) × Relays (after y a) (own y z) d x
     shows-old x z e is nothing b l k n w = (let o = r .shows x z b k w in (o .0, relays-after z l n (o .1)))
     shows-old x z e is (asked t h) b l k n w = (let o = r .shows x z b k w in (o .0, relays-after z l n (o .1)))

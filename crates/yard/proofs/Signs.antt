@@ -38,8 +38,8 @@ signed-start engines =
     none≢waiting : {j s m : ℕ} → none ≡ waiting j s m → ⊥
     none≢waiting p = let z : _≡_ {A = ℕ} 0 1 = cc in omega arith
 
-module _ {engines : ℕ} {y z : Yard} where
-  pub shown-rises : {x : ℕ} {e : Engine} → Did engines y z x e → shown y x ≤ e .shown
+module _ {engines : ℕ} {y : Yard} {act : Act} where
+  pub shown-rises : {x : ℕ} {e : Engine} → Did engines y act x e → shown y x ≤ e .shown
   shown-rises nothing = omega arith
   shown-rises (asked s g) = omega arith
   shown-rises (freed s g) = omega arith
@@ -47,7 +47,7 @@ module _ {engines : ℕ} {y z : Yard} where
   shown-rises (heard j v g) = let l = g .2 in omega arith
   shown-rises (found j s g) = omega arith
 
-  count-rises : {x : ℕ} {e : Engine} → Did engines y z x e → count y x ≤ e .count
+  count-rises : {x : ℕ} {e : Engine} → Did engines y act x e → count y x ≤ e .count
   count-rises nothing = omega arith
   count-rises (asked s g) = omega arith
   count-rises (freed s g) = omega arith
@@ -56,7 +56,7 @@ module _ {engines : ℕ} {y z : Yard} where
   count-rises (found j s g) = omega arith
 
   -- an own sign stays, or is a new one above all that was shown
-  pub own-was : {x : ℕ} {e : Engine} → Did engines y z x e → (e .own ≡ own y x) ⊎ ((shown y x < e .own) × (e .shown ≡ e .own) × (e .own % engines ≡ x))
+  pub own-was : {x : ℕ} {e : Engine} → Did engines y act x e → (e .own ≡ own y x) ⊎ ((shown y x < e .own) × (e .shown ≡ e .own) × (e .own % engines ≡ x))
   own-was nothing = inl refl
   own-was (asked s g) = inl refl
   own-was (freed s g) = inl refl
@@ -65,7 +65,7 @@ module _ {engines : ℕ} {y z : Yard} where
   own-was (found j s g) = inl refl
 
   -- what is shown was shown, or is a new sign of its own, or was told
-  pub shown-was : {x : ℕ} {e : Engine} → Did engines y z x e →
+  pub shown-was : {x : ℕ} {e : Engine} → Did engines y act x e →
       (e .shown ≡ shown y x) ⊎ (((e .own ≡ e .shown) × (e .own % engines ≡ x)) ⊎ ((j : ℕ) × Told y x (count y x) j (e .shown)))
   shown-was nothing = inl refl
   shown-was (asked s g) = inl refl
@@ -74,17 +74,17 @@ module _ {engines : ℕ} {y z : Yard} where
   shown-was (heard j v g) = inr (inr (j, g .0))
   shown-was (found j s g) = inl refl
 
-  begun-did : {x j s m : ℕ} {e : Engine} → ((c t : ℕ) → HasBegun y x c t → HasBegun z x c t) → (mode y x ≡ waiting j s m → HasBegun y x (count y x) s) → Did engines y z x e →
-      e .mode ≡ waiting j s m → HasBegun z x (e .count) s
+  begun-did : {x j s m : ℕ} {e : Engine} → ((c t : ℕ) → HasBegun y x c t → HasBegun (after y act) x c t) → (mode y x ≡ waiting j s m → HasBegun y x (count y x) s) → Did engines y act x e →
+      e .mode ≡ waiting j s m → HasBegun (after y act) x (e .count) s
   begun-did st old nothing e = st _ _ (old e)
   begun-did st old (asked t g) e = absurd (waiting≢asking e refl)
   begun-did st old (freed t g) e = absurd (waiting≢freeing e refl)
-  begun-did {s = s} st old (began t k n u g b) e = let p : s ≡ t = cc in rw p b
+  begun-did {s = s} st old (began t k n u g b) e = let p : s ≡ t = cc in rw (p, b) (List·Memᴰ·head refl)
   begun-did st old (heard k v g) e = st _ _ (old e)
   begun-did st old (found k t g) e = absurd (waiting≢leaving e refl)
 
 module _ {engines : ℕ} {y : Yard} (p : Placed engines y) (q : Signed engines y) where
-  pub own-rises : {z : Yard} {x : ℕ} {e : Engine} → Did engines y z x e → own y x ≤ e .own
+  pub own-rises : {act : Act} {x : ℕ} {e : Engine} → Did engines y act x e → own y x ≤ e .own
   own-rises {x = x} d = elim (own-was d) [ inl e ↦ omega arith | inr w ↦ (let l = q .under x in let k = w .0 in omega arith) ]
 
   begins-count : (a : Act) {i s j m u : ℕ} → a ≡ begins i s j m u → count (after y a) i ≡ suc (count y i)

@@ -28,23 +28,23 @@ moved engines y (tells x c t j) g s = unmoved
 moved engines y (hears x j v) g s = unmoved
 moved engines y (finds i j t) g s = unmoved
 
--- what an engine did from y to z
-pub data Did (engines : ℕ) (y z : Yard) (x : ℕ) : Engine → Type 0 where
-  nothing : Did engines y z x (y .engine x)
-  asked : (s : ℕ) → May engines y (asks x s) → Did engines y z x (turned (asking s) (y .engine x))
-  freed : (s : ℕ) → May engines y (frees x s) → Did engines y z x (turned (freeing s) (y .engine x))
-  began : (s j m u : ℕ) → May engines y (begins x s j m u) → HasBegun z x (suc (count y x)) s → Did engines y z x (beginning (waiting j s m) u (y .engine x))
-  heard : (j v : ℕ) → May engines y (hears x j v) → Did engines y z x (showing v (y .engine x))
-  found : (j s : ℕ) → May engines y (finds x j s) → Did engines y z x (turned (leaving s) (y .engine x))
+-- what an engine did in the act
+pub data Did (engines : ℕ) (y : Yard) (act : Act) (x : ℕ) : Engine → Type 0 where
+  nothing : Did engines y act x (y .engine x)
+  asked : (s : ℕ) → May engines y (asks x s) → Did engines y act x (turned (asking s) (y .engine x))
+  freed : (s : ℕ) → May engines y (frees x s) → Did engines y act x (turned (freeing s) (y .engine x))
+  began : (s j m u : ℕ) → May engines y (begins x s j m u) → act ≡ begins x s j m u → Did engines y act x (beginning (waiting j s m) u (y .engine x))
+  heard : (j v : ℕ) → May engines y (hears x j v) → Did engines y act x (showing v (y .engine x))
+  found : (j s : ℕ) → May engines y (finds x j s) → Did engines y act x (turned (leaving s) (y .engine x))
 
-pub did : (engines : ℕ) (y : Yard) (a : Act) → May engines y a → (x : ℕ) → Did engines y (after y a) x (after y a .engine x)
+pub did : (engines : ℕ) (y : Yard) (a : Act) → May engines y a → (x : ℕ) → Did engines y a x (after y a .engine x)
 did engines y (asks i s) g x = at-put (Did engines y _ x) i _ (y .engine) x (λ p. rw p (asked s g)) (λ o. nothing)
 did engines y (frees i s) g x = at-put (Did engines y _ x) i _ (y .engine) x (λ p. rw p (freed s g)) (λ o. nothing)
 did engines y (takes i s) g x = nothing
 did engines y (joins i s) g x = nothing
 did engines y (passes i s) g x = nothing
 did engines y (leaves i s) g x = nothing
-did engines y (begins i s j m u) g x = at-put (Did engines y _ x) i _ (y .engine) x (λ p. rw p (began s j m u g (List·Memᴰ·head refl))) (λ o. nothing)
+did engines y (begins i s j m u) g x = at-put (Did engines y _ x) i _ (y .engine) x (λ p. rw p (began s j m u g refl)) (λ o. nothing)
 did engines y (tells i c s j) g x = nothing
 did engines y (hears i j v) g x = at-put (Did engines y _ x) i _ (y .engine) x (λ p. rw p (heard j v g)) (λ o. nothing)
 did engines y (finds i j s) g x = at-put (Did engines y _ x) i _ (y .engine) x (λ p. rw p (found j s g)) (λ o. nothing)

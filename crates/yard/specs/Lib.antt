@@ -1,1 +1,3 @@
 pub mod Yard
+pub mod Rings
+pub mod Order
