@@ -42,7 +42,7 @@ module _ {engines : ℕ} {y : Yard} (p : Placed engines y) (q : Signed engines y
   idle-did is (freed t h) i l = idle-above (λ j s m e. waiting≢freeing e (mode-is is)) (let w = shown-is is in omega arith)
   idle-did is (began t j m u h b) i l = own-above (let w = own-is is in let n = h .3 .0 in omega arith)
   idle-did is (heard j v h) i l = absurd (i _ _ _ (h .1 .1 .1))
-  idle-did is (found j t h) i l = absurd (i _ _ _ (h .1 .1))
+  idle-did is (found j t h z) i l = absurd (i _ _ _ (h .1 .1))
 
   through-did : {v x j s m : ℕ} {e : Engine} → after y a .engine x ≡ e → Did engines y a x e → mode y x ≡ waiting j s m → v ≤ shown y x → Covered (after y a) v j → Covered (after y a) v x
   through-did is nothing n l c = through _ _ _ (mode-is is ∙ n) (let w = shown-is is in omega arith) c
@@ -50,7 +50,7 @@ module _ {engines : ℕ} {y : Yard} (p : Placed engines y) (q : Signed engines y
   through-did is (freed t h) n l c = idle-above (λ j s m e. waiting≢freeing e (mode-is is)) (let w = shown-is is in omega arith)
   through-did is (began t j m u h b) n l c = own-above (let w = own-is is in let k = h .3 .0 in omega arith)
   through-did is (heard j v h) n l c = through _ _ _ (mode-is is ∙ n) (let w = shown-is is in let k = h .2 in omega arith) c
-  through-did is (found j t h) n l c = idle-above (λ j s m e. waiting≢leaving e (mode-is is)) (let w = shown-is is in omega arith)
+  through-did is (found j t h z) n l c = idle-above (λ j s m e. waiting≢leaving e (mode-is is)) (let w = shown-is is in omega arith)
 
   covered-after : {v x : ℕ} → Covered y v x → Covered (after y a) v x
   covered-after (own-above {x = x} l) = own-above (let up = own-rises p q (did engines y a g x) in omega arith)
@@ -63,7 +63,7 @@ module _ {engines : ℕ} {y : Yard} (p : Placed engines y) (q : Signed engines y
   shown-did {x} r is (freed t h) = covered-after (r .of-shown x)
   shown-did {x} r is (began t j m u h b) = own-above (let w = own-is is in omega arith)
   shown-did {x} r is (heard j v h) = through _ _ _ (mode-is is ∙ h .1 .1 .1) (let w = shown-is is in omega arith) (covered-after (r .of-told x _ j v (h .0)))
-  shown-did {x} r is (found j t h) = covered-after (r .of-shown x)
+  shown-did {x} r is (found j t h z) = covered-after (r .of-shown x)
 
   pub all-covered-after : AllCovered y → AllCovered (after y a)
   all-covered-after r =

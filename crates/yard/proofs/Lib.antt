@@ -7,3 +7,4 @@ pub mod Relays
 pub mod Covered
 pub mod Sound
 pub mod Promised
+pub mod Rounds

@@ -186,7 +186,7 @@ module _ {engines : ℕ} {y : Yard} (p : Placed engines y) where
       go (freed t g) v a = absurd (out (g .1) v)
       go (began t j m u g b) v a = about-one t s (mode y i) (unheard-about t m (mode y i) (g .0) .0) a
       go (heard j v2 g) v a = a
-      go (found j t g) v a = rw (g .1 .1) at a
+      go (found j t g n) v a = rw (g .1 .1) at a
 
   -- who waits, as its home has it, stood in the queue or had the section, and its view was true since it came
   viewed : {act : Act} {i j s m : ℕ} {e : Engine} → Did engines y act i e → e .mode ≡ waiting j s m →
@@ -207,7 +207,7 @@ module _ {engines : ℕ} {y : Yard} (p : Placed engines y) where
           ((i ≡ k → ⊥) × (y .section t .past n ≡ by k) × (n ≤ y .section t .change) × (Queued y i t → y .section t .came i ≤ n))
       told = (g .1, (unheard-about t n (mode y i) (g .0) .1 t, λ q. rw q at (g .0)), (g .2 .3, g .2 .2, g .2 .1, λ q. g .2 .0))
   viewed {i} {j} {s} {m} (heard k v g) e = (p .stands i j s m e, (waiting≢leaving e, waiting≢freeing e), p .view i j s m e)
-  viewed (found k t g) e = absurd (waiting≢leaving e refl)
+  viewed (found k t g n) e = absurd (waiting≢leaving e refl)
 
   stand-after : {i s : ℕ} {x : Section} → Moved engines y s x → (mode y i ≡ leaving s → ⊥) × (mode y i ≡ freeing s → ⊥) →
       Queued y i s ⊎ (holder y s ≡ by i) → List·Memᴰ i (x .queue) ⊎ (x .holder ≡ by i)
@@ -229,7 +229,7 @@ module _ {engines : ℕ} {y : Yard} (p : Placed engines y) where
   numbered-did {i} (freed t g) = inr (p .holders i t (g .0))
   numbered-did {i} (began t j m u g b) = inr (busy-numbered i t (unheard-about t m (mode y i) (g .0) .0))
   numbered-did {i} (heard j v g) = p .numbered i
-  numbered-did {i} (found j t g) = inr (busy-numbered i t (rw (g .1 .1)))
+  numbered-did {i} (found j t g n) = inr (busy-numbered i t (rw (g .1 .1)))
 
   pub placed-after : (a : Act) → May engines y a → Placed engines (after y a)
   placed-after a g =

@@ -84,7 +84,7 @@ taken-after {engines} {y} {acts} p old a g = (λ i l. shows i l (did engines y a
     shows i l (freed s f) = taken-more a (old .0 i l)
     shows i l (began s j m u f b) = inr (i, s, j, m, List·Memᴰ·head (sym b), f .3 .1)
     shows i l (heard j v f) = taken-more a (old .1 i _ j v (f .0))
-    shows i l (found j s f) = taken-more a (old .0 i l)
+    shows i l (found j s f z) = taken-more a (old .0 i l)
     told : (x c j v : ℕ) → Told (after y a) x c j v → Taken engines (a ∷ acts) v
     told x c j v t =
         elim (told-was engines y a g x c j v t)

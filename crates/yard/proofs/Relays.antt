@@ -64,7 +64,7 @@ module _ {engines : ℕ} {y : Yard} (p : Placed engines y) (q : Signed engines y
   waiter-did {s = s} (began t i n u k b) e w h l =
       absurd (let v = view-last p e w h in let un = rw e at (k .0) in let r : s ≡ t = un .0 in let hi = rw (← r) at (k .2 .1) in omega (arith, un .1))
   waiter-did (heard i v k) e w h l = (e, refl, (let n = k .2 in omega arith))
-  waiter-did (found i t k) e w h l = absurd (let n = k .2 in omega arith)
+  waiter-did (found i t k z) e w h l = absurd (let n = k .2 in omega arith)
 
   relays-after : {o d x : ℕ} (z : ℕ) → Live (mode (after y a) z) → own (after y a) z ≡ o → Relays y o d x → Relays (after y a) o d x
   relays-after {o} z l k (self {x = x} e b) = rw same (self k l)
@@ -84,7 +84,7 @@ module _ {engines : ℕ} {y : Yard} (p : Placed engines y) (q : Signed engines y
   live-was (freed t k) l = absurd l
   live-was (began t j m u k b) l = inr (k .3 .0, k .3 .1)
   live-was (heard j v k) l = inl (l, refl)
-  live-was (found j t k) l = inl (rw (k .1 .1) tt, refl)
+  live-was (found j t k z) l = inl (rw (k .1 .1) tt, refl)
 
   same-own : {x z : ℕ} → x < engines → Live (mode (after y a) z) → own (after y a) x ≡ own (after y a) z → x ≡ z
   same-own {x} {z} b l e = sym (signed-after p q a g .mine x b) ∙ rw e (signed-after p q a g .mine z (live-numbered (placed-after p a g) z l))
@@ -107,7 +107,7 @@ module _ {engines : ℕ} {y : Yard} (p : Placed engines y) (q : Signed engines y
         let st = wait-after in-it has (live-not-freeing _ s (relays-live (o .0 .1))) (waiting≢leaving m) in
         let low = q .under x in let up = h .2 in let now-own = ap (λ (e : Engine). e .own) is in let now-shown = ap (λ (e : Engine). e .shown) is in
         (suc (o .0 .0), via j s _ (ap (λ (e : Engine). e .mode) is ∙ m) (st .0) (st .1) (omega arith) (omega arith) (relays-after z l n (o .0 .1)))
-    shows-old x z e is (found j t h) b l k n w = (let o = r .shows x z b k w in (o .0, relays-after z l n (o .1)))
+    shows-old x z e is (found j t h c) b l k n w = (let o = r .shows x z b k w in (o .0, relays-after z l n (o .1)))
 
     shows-after : (x z : ℕ) → x < engines → Live (mode (after y a) z) → shown (after y a) x ≡ own (after y a) z → (d : ℕ) × Relays (after y a) (own (after y a) z) d x
     shows-after x z b l w =

@@ -45,7 +45,7 @@ module _ {engines : ℕ} {y : Yard} {act : Act} where
   shown-rises (freed s g) = omega arith
   shown-rises (began s j m u g b) = let l = g .3 .0 in omega arith
   shown-rises (heard j v g) = let l = g .2 in omega arith
-  shown-rises (found j s g) = omega arith
+  shown-rises (found j s g z) = omega arith
 
   count-rises : {x : ℕ} {e : Engine} → Did engines y act x e → count y x ≤ e .count
   count-rises nothing = omega arith
@@ -53,7 +53,7 @@ module _ {engines : ℕ} {y : Yard} {act : Act} where
   count-rises (freed s g) = omega arith
   count-rises (began s j m u g b) = omega arith
   count-rises (heard j v g) = omega arith
-  count-rises (found j s g) = omega arith
+  count-rises (found j s g z) = omega arith
 
   -- an own sign stays, or is a new one above all that was shown
   pub own-was : {x : ℕ} {e : Engine} → Did engines y act x e → (e .own ≡ own y x) ⊎ ((shown y x < e .own) × (e .shown ≡ e .own) × (e .own % engines ≡ x))
@@ -62,7 +62,7 @@ module _ {engines : ℕ} {y : Yard} {act : Act} where
   own-was (freed s g) = inl refl
   own-was (began s j m u g b) = inr (g .3 .0, refl, g .3 .1)
   own-was (heard j v g) = inl refl
-  own-was (found j s g) = inl refl
+  own-was (found j s g z) = inl refl
 
   -- what is shown was shown, or is a new sign of its own, or was told
   pub shown-was : {x : ℕ} {e : Engine} → Did engines y act x e →
@@ -72,7 +72,7 @@ module _ {engines : ℕ} {y : Yard} {act : Act} where
   shown-was (freed s g) = inl refl
   shown-was (began s j m u g b) = inr (inl (refl, g .3 .1))
   shown-was (heard j v g) = inr (inr (j, g .0))
-  shown-was (found j s g) = inl refl
+  shown-was (found j s g z) = inl refl
 
   begun-did : {x j s m : ℕ} {e : Engine} → ((c t : ℕ) → HasBegun y x c t → HasBegun (after y act) x c t) → (mode y x ≡ waiting j s m → HasBegun y x (count y x) s) → Did engines y act x e →
       e .mode ≡ waiting j s m → HasBegun (after y act) x (e .count) s
@@ -81,7 +81,7 @@ module _ {engines : ℕ} {y : Yard} {act : Act} where
   begun-did st old (freed t g) e = absurd (waiting≢freeing e refl)
   begun-did {s = s} st old (began t k n u g b) e = let p : s ≡ t = cc in rw (p, b) (List·Memᴰ·head refl)
   begun-did st old (heard k v g) e = st _ _ (old e)
-  begun-did st old (found k t g) e = absurd (waiting≢leaving e refl)
+  begun-did st old (found k t g z) e = absurd (waiting≢leaving e refl)
 
 module _ {engines : ℕ} {y : Yard} (p : Placed engines y) (q : Signed engines y) where
   pub own-rises : {act : Act} {x : ℕ} {e : Engine} → Did engines y act x e → own y x ≤ e .own

@@ -35,7 +35,7 @@ pub data Did (engines : ℕ) (y : Yard) (act : Act) (x : ℕ) : Engine → Type 
   freed : (s : ℕ) → May engines y (frees x s) → Did engines y act x (turned (freeing s) (y .engine x))
   began : (s j m u : ℕ) → May engines y (begins x s j m u) → act ≡ begins x s j m u → Did engines y act x (beginning (waiting j s m) u (y .engine x))
   heard : (j v : ℕ) → May engines y (hears x j v) → Did engines y act x (showing v (y .engine x))
-  found : (j s : ℕ) → May engines y (finds x j s) → Did engines y act x (turned (leaving s) (y .engine x))
+  found : (j s : ℕ) → May engines y (finds x j s) → act ≡ finds x j s → Did engines y act x (turned (leaving s) (y .engine x))
 
 pub did : (engines : ℕ) (y : Yard) (a : Act) → May engines y a → (x : ℕ) → Did engines y a x (after y a .engine x)
 did engines y (asks i s) g x = at-put (Did engines y _ x) i _ (y .engine) x (λ p. rw p (asked s g)) (λ o. nothing)
@@ -47,7 +47,7 @@ did engines y (leaves i s) g x = nothing
 did engines y (begins i s j m u) g x = at-put (Did engines y _ x) i _ (y .engine) x (λ p. rw p (began s j m u g refl)) (λ o. nothing)
 did engines y (tells i c s j) g x = nothing
 did engines y (hears i j v) g x = at-put (Did engines y _ x) i _ (y .engine) x (λ p. rw p (heard j v g)) (λ o. nothing)
-did engines y (finds i j s) g x = at-put (Did engines y _ x) i _ (y .engine) x (λ p. rw p (found j s g)) (λ o. nothing)
+did engines y (finds i j s) g x = at-put (Did engines y _ x) i _ (y .engine) x (λ p. rw p (found j s g refl)) (λ o. nothing)
 
 -- what was begun was begun before, or just now
 pub begun-was : (engines : ℕ) (y : Yard) (a : Act) → May engines y a → (i c s : ℕ) → HasBegun (after y a) i c s →
