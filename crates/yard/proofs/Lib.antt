@@ -8,3 +8,4 @@ pub mod Covered
 pub mod Sound
 pub mod Promised
 pub mod Rounds
+pub mod Standing

@@ -5,7 +5,7 @@ use mathlib.Core.Logic.{_⊎_, inl, inr}
 use mathlib.Core.List.{List, [], _∷_, List·Memᴰ, List·Memᴰ·head, List·Memᴰ·tail}
 use Prim.Native.Nat.{ℕ, suc, _%_, _<_, _≤_}
 use native.Mathlib.Omega.{arith}
-use Rattle.yard.specs.Yard.{Holder, by, Section, Mode, none, asking, waiting, freeing, leaving, Engine, Yard, start, holder, mode, count, shown, own, Queued, HasBegun, Told, Act, May, after}
+use Rattle.yard.specs.Yard.{Holder, by, Section, Mode, none, asking, waiting, freeing, leaving, Engine, Yard, start, holder, mode, count, shown, own, Queued, HasBegun, Told, Act, finds, May, after}
 use Rattle.yard.proofs.Views.{moved, Did, nothing, asked, freed, began, heard, found, did, begun-was, told-was}
 use Rattle.yard.proofs.Places.{Placed, placed-after, same-holder, in-after, holder-after, settled-out, view-last, waiting≢asking, waiting≢freeing, waiting≢leaving}
 use Rattle.yard.proofs.Signs.{Signed, signed-after, own-was, shown-was}
@@ -55,16 +55,16 @@ module _ {engines : ℕ} {y : Yard} (p : Placed engines y) (q : Signed engines y
         [ inl m ↦ m | inr r ↦ elim r [ inl k ↦ absurd (nf (rw (same-holder h (k .1 .1)) (k .1 .2))) | inr l ↦ absurd (nl l) ] ]
       , elim (holder-after (moved engines y a g s) h) [ inl k ↦ k | inr f ↦ absurd (nf f) ] )
 
-  -- who waits with the right view and shows a higher sign than its own can only hear
-  pub waiter-did : {act : Act} {x j s m : ℕ} {e : Engine} → Did engines y act x e → mode y x ≡ waiting j s m → Queued y x s → holder y s ≡ by j → own y x < shown y x →
-      (e .mode ≡ waiting j s m) × (e .own ≡ own y x) × (shown y x ≤ e .shown)
-  waiter-did nothing e w h l = (e, refl, omega arith)
-  waiter-did (asked t k) e w h l = absurd (settled-out p (k .1) w)
-  waiter-did (freed t k) e w h l = absurd (settled-out p (k .1) w)
-  waiter-did {s = s} (began t i n u k b) e w h l =
+  -- who waits with the right view and doesn't find can only hear
+  pub waiter-did : {act : Act} {x j s m : ℕ} {e : Engine} → Did engines y act x e → mode y x ≡ waiting j s m → Queued y x s → holder y s ≡ by j →
+      ((i t : ℕ) → shown y x ≡ own y x → act ≡ finds x i t → ⊥) → (e .mode ≡ waiting j s m) × (e .own ≡ own y x) × (shown y x ≤ e .shown) × (e .count ≡ count y x)
+  waiter-did nothing e w h n = (e, refl, omega arith, refl)
+  waiter-did (asked t k) e w h n = absurd (settled-out p (k .1) w)
+  waiter-did (freed t k) e w h n = absurd (settled-out p (k .1) w)
+  waiter-did {s = s} (began t i r u k b) e w h n =
       absurd (let v = view-last p e w h in let un = rw e at (k .0) in let r : s ≡ t = un .0 in let hi = rw (← r) at (k .2 .1) in omega (arith, un .1))
-  waiter-did (heard i v k) e w h l = (e, refl, (let n = k .2 in omega arith))
-  waiter-did (found i t k z) e w h l = absurd (let n = k .2 in omega arith)
+  waiter-did (heard i v k) e w h n = (e, refl, (let l = k .2 in omega arith), refl)
+  waiter-did (found i t k b) e w h n = absurd (n i t (k .2) b)
 
   relays-after : {o d x : ℕ} (z : ℕ) → Live (mode (after y a) z) → own (after y a) z ≡ o → Relays y o d x → Relays (after y a) o d x
   relays-after {o} z l k (self {x = x} e b) = rw same (self k l)
@@ -73,7 +73,7 @@ module _ {engines : ℕ} {y : Yard} (p : Placed engines y) (q : Signed engines y
       same = sym (q .mine x (live-numbered p x b)) ∙ rw (e ∙ sym k) (signed-after p q a g .mine z (live-numbered (placed-after p a g) z l))
   relays-after z l k (via {x = x} j s m e w h lo hi r) =
       let v = wait-after w h (live-not-freeing _ s (relays-live r)) (waiting≢leaving e) in
-      let n = waiter-did (did engines y a g x) e w h (omega arith) in
+      let n = waiter-did (did engines y a g x) e w h (λ i t f b. omega arith) in
       let up = n .2 in let same = n .1 in
       via j s m (n .0) (v .0) (v .1) (omega arith) (omega arith) (relays-after z l k r)
 

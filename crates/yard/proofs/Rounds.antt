@@ -48,6 +48,10 @@ along-all P st (one n) p l m = elim m [ ]
 along-all P st (more n t) p l (List·Memᴰ·head e) = rw e (st _ _ p n)
 along-all P st (more n t) p l (List·Memᴰ·tail m) = along-all P st t (st _ _ p n) l m
 
+pub along-end : {y : Yard} (P : ℕ → Type 0) → ((x k : ℕ) → P x → WaitsFor y x k → P k) → {x k : ℕ} {is : List ℕ} → Along y x is k → P x → P k
+along-end P st (one n) p = st _ _ p n
+along-end P st (more n t) p = along-end P st t (st _ _ p n)
+
 module _ {engines : ℕ} {y : Yard} (w : Sound engines y) where
   -- what a finding rests on
   record Back (i j s : ℕ) : Type 0 where
@@ -98,6 +102,10 @@ module _ {engines : ℕ} {y : Yard} (w : Sound engines y) where
       here : WaitsFor y i k
       here = rw (own-one (w .places) (w .signs) l (b .live) e) at n
   next-relays {k = k} b (via {d = d} u t m e q h lo hi r) n = (d, rw (waits-one (w .places) {j = k} {k = u} n (t, q, h)) r)
+
+  -- whoever a walk from one that finds leads to relays its sign
+  pub chain-to : {i j s k : ℕ} {is : List ℕ} → Finds y i j s → Along y i is k → (d : ℕ) × Relays y (own y i) d k
+  chain-to {i} f r = along-end (λ x. (d : ℕ) × Relays y (own y i) d x) (λ x k c n. next-relays (back f) (c .1) n) r (0, self refl (back f .live))
 
   -- all others of a ring wait, with a lower own sign than that of the one that finds, and show its sign or a higher one
   others : {i j s : ℕ} {is : List ℕ} → Finds y i j s → Ring y i is → (l : ℕ) → List·Memᴰ l is →
