@@ -9,3 +9,8 @@ pub mod Sound
 pub mod Promised
 pub mod Rounds
 pub mod Standing
+pub mod Beginnings
+pub mod Telling
+pub mod EveryRun
+pub mod Lost
+pub mod Runs

@@ -47,7 +47,7 @@ pub record Relayed (engines : ℕ) (y : Yard) : Type 0 where
 pub relayed-start : (engines : ℕ) → Relayed engines start
 relayed-start engines = record { shows = λ x z b l. absurd l; tells = λ x c j v z l. absurd l }
 
-module _ {engines : ℕ} {y : Yard} (p : Placed engines y) (q : Signed engines y) (a : Act) (g : May engines y a) where
+module _ {engines : ℕ} {y : Yard} (p : Placed engines y) (a : Act) (g : May engines y a) where
   -- a wait stays while the holder doesn't free and the waiter doesn't leave
   pub wait-after : {x j s : ℕ} → Queued y x s → holder y s ≡ by j → (mode y j ≡ freeing s → ⊥) → (mode y x ≡ leaving s → ⊥) → Queued (after y a) x s × (holder (after y a) s ≡ by j)
   wait-after {x} {j} {s} w h nf nl =
@@ -66,14 +66,15 @@ module _ {engines : ℕ} {y : Yard} (p : Placed engines y) (q : Signed engines y
   waiter-did (heard i v k) e w h n = (e, refl, (let l = k .2 in omega arith), refl)
   waiter-did (found i t k b) e w h n = absurd (n i t (k .2) b)
 
+module _ {engines : ℕ} {y : Yard} (p : Placed engines y) (q : Signed engines y) (a : Act) (g : May engines y a) where
   relays-after : {o d x : ℕ} (z : ℕ) → Live (mode (after y a) z) → own (after y a) z ≡ o → Relays y o d x → Relays (after y a) o d x
   relays-after {o} z l k (self {x = x} e b) = rw same (self k l)
     where
       same : x ≡ z
       same = sym (q .mine x (live-numbered p x b)) ∙ rw (e ∙ sym k) (signed-after p q a g .mine z (live-numbered (placed-after p a g) z l))
   relays-after z l k (via {x = x} j s m e w h lo hi r) =
-      let v = wait-after w h (live-not-freeing _ s (relays-live r)) (waiting≢leaving e) in
-      let n = waiter-did (did engines y a g x) e w h (λ i t f b. omega arith) in
+      let v = wait-after p a g w h (live-not-freeing _ s (relays-live r)) (waiting≢leaving e) in
+      let n = waiter-did p a g (did engines y a g x) e w h (λ i t f b. omega arith) in
       let up = n .2 in let same = n .1 in
       via j s m (n .0) (v .0) (v .1) (omega arith) (omega arith) (relays-after z l k r)
 
@@ -104,7 +105,7 @@ module _ {engines : ℕ} {y : Yard} (p : Placed engines y) (q : Signed engines y
         let m : mode y x ≡ waiting j s (h .1 .1 .0) = h .1 .1 .1 in
         let has = o .1 s (q .begun-now x j s _ m) in
         let in-it = elim (p .stands x j s _ m) as (λ _. Queued y x s) [ inl c ↦ c | inr c ↦ absurd (p .view x j s _ m .0 (same-holder c has)) ] in
-        let st = wait-after in-it has (live-not-freeing _ s (relays-live (o .0 .1))) (waiting≢leaving m) in
+        let st = wait-after p a g in-it has (live-not-freeing _ s (relays-live (o .0 .1))) (waiting≢leaving m) in
         let low = q .under x in let up = h .2 in let now-own = ap (λ (e : Engine). e .own) is in let now-shown = ap (λ (e : Engine). e .shown) is in
         (suc (o .0 .0), via j s _ (ap (λ (e : Engine). e .mode) is ∙ m) (st .0) (st .1) (omega arith) (omega arith) (relays-after z l n (o .0 .1)))
     shows-old x z e is (found j t h c) b l k n w = (let o = r .shows x z b k w in (o .0, relays-after z l n (o .1)))

@@ -145,7 +145,7 @@ pub old-words : OldWords
 old-words engines y r = old-words-at (sound r)
 
 -- staying
-along-queued : {y : Yard} {i k : ℕ} {is : List ℕ} → Along y i is k → (s : ℕ) × Queued y i s
+pub along-queued : {y : Yard} {i k : ℕ} {is : List ℕ} → Along y i is k → (s : ℕ) × Queued y i s
 along-queued (one n) = (n .0, n .1)
 along-queued (more n r) = (n .0, n .1)
 

@@ -80,7 +80,7 @@ module _ {engines k : ℕ} {ks : List ℕ} {y : Yard} (w : Standing engines k ks
   module _ (a : Act) (g : May engines y a) (quiet : (j s : ℕ) → a ≡ finds k j s → ⊥) where
     -- what each of the ring does in an act that isn't the finding
     pub ring-did : (x : ℕ) (m : List·Memᴰ x (k ∷ ks)) → (let h = w .hears x m in (mode (after y a) x ≡ waiting (h .for) (h .place) (h .as-of))) × (own (after y a) x ≡ own y x) × (shown y x ≤ shown (after y a) x) × (count (after y a) x ≡ count y x)
-    ring-did x m = let h = w .hears x m in waiter-did (w .sound .places) (w .sound .signs) a g (did engines y a g x) (h .view) (h .queued) (h .has) still
+    ring-did x m = let h = w .hears x m in waiter-did (w .sound .places) a g (did engines y a g x) (h .view) (h .queued) (h .has) still
       where
         still : (i t : ℕ) → shown y x ≡ own y x → a ≡ finds x i t → ⊥
         still i t s e = let top = only-top x i t m (rw e at g) in quiet i t (rw (← top) e)
@@ -88,13 +88,13 @@ module _ {engines k : ℕ} {ks : List ℕ} {y : Yard} (w : Standing engines k ks
     stays-put : (x j : ℕ) → List·Memᴰ x (k ∷ ks) → WaitsFor y x j → WaitsFor (after y a) x j
     stays-put x j m n =
         let h = w .hears x m in
-        let v = wait-after (w .sound .places) (w .sound .signs) a g (n .1) (n .2) (not-freeing j (ring-closed (w .sound .places) (w .ring) x j m n) (n .0)) (waiting≢leaving (h .view)) in
+        let v = wait-after (w .sound .places) a g (n .1) (n .2) (not-freeing j (ring-closed (w .sound .places) (w .ring) x j m n) (n .0)) (waiting≢leaving (h .view)) in
         (n .0, v .0, v .1)
 
     hears-after : (x : ℕ) → List·Memᴰ x (k ∷ ks) → Hears (after y a) x
     hears-after x m =
         let h = w .hears x m in
-        let v = wait-after (w .sound .places) (w .sound .signs) a g (h .queued) (h .has) (not-freeing (h .for) (next-in x m) (h .place)) (waiting≢leaving (h .view)) in
+        let v = wait-after (w .sound .places) a g (h .queued) (h .has) (not-freeing (h .for) (next-in x m) (h .place)) (waiting≢leaving (h .view)) in
         record { for = h .for; place = h .place; as-of = h .as-of; view = ring-did x m .0; queued = v .0; has = v .1 }
 
     pub standing-after : Standing engines k ks (after y a)

@@ -184,8 +184,8 @@ May engines y (begins i s j m u) =
     Unheard s m (mode y i) × (Queued y i s ⊎ (holder y s ≡ by i)) ×
     ((y .section s .came i ≤ m) × (m ≤ y .section s .change) × (y .section s .past m ≡ by j) × (i ≡ j → ⊥)) ×
     ((shown y i < u) × (u % engines ≡ i))
--- from the moment at which it sends that it frees a section it tells nobody there any more
-May engines y (tells x c s j) = HasBegun y x c s × (holder y s ≡ by j) × (mode y j ≡ freeing s → ⊥)
+-- j has the section: its home, which can't know that any more once it has sent that j frees it, tells nobody there from then on
+May engines y (tells x c s j) = HasBegun y x c s × (holder y s ≡ by j)
 May engines y (hears x j v) = Told y x (count y x) j v × ((s : ℕ) × WaitsOn y x j s) × (shown y x < v)
 May engines y (finds i j s) = Finds y i j s
 

@@ -1,4 +1,6 @@
 // What is promised of the whole yard, sections and signs together. Each function carries one promise in its contract, and does nothing.
+ghost use Rattle.yard.specs.Found.{Found, FoundInEveryRun};
+ghost use Rattle.yard.specs.Needed.{RingOfThree, TellingAfterFreeing, SignBeforeQueue, EarlierCount, KeptSign, OwnSignAgain};
 ghost use Rattle.yard.specs.Order.{OneAtATime, OnePlace, SomebodyHas, FirstGets, NoOvertaking, Behind, OwnDiffer, ShownRises, OnlyTaken};
 ghost use Rattle.yard.specs.Rings.{Real, Highest, Alone, Stays, StaysUntilFound, OldWords};
 
@@ -89,5 +91,53 @@ pub fn shown_rises()
 // Nobody ever shows or is told a sign that its engine hasn't taken.
 pub fn signs_were_taken()
     ensures { λ _. ⌜ OnlyTaken ⌝ }
+{
+}
+
+// From every ring there is a way to its finding by the highest: beginnings of those that have not heard, then as many tellings as engines, and hearings.
+pub fn every_ring_is_found()
+    ensures { λ _. ⌜ Found ⌝ }
+{
+}
+
+// In every run in which the highest sign is told round once in order, its engine finds.
+pub fn found_in_every_run()
+    ensures { λ _. ⌜ FoundInEveryRun ⌝ }
+{
+}
+
+// The promises are not empty: a run to a ring of three and its finding.
+pub fn ring_of_three_is_found()
+    ensures { λ _. ⌜ RingOfThree ⌝ }
+{
+}
+
+// Telling after the freeing was sent leads to a false finding.
+pub fn silence_once_freed_is_needed()
+    ensures { λ _. ⌜ TellingAfterFreeing ⌝ }
+{
+}
+
+// A sign taken when asking, before standing in the queue, leads to a false finding.
+pub fn standing_in_the_queue_is_needed()
+    ensures { λ _. ⌜ SignBeforeQueue ⌝ }
+{
+}
+
+// Hearing by an earlier count leads to a false finding.
+pub fn this_count_is_needed()
+    ensures { λ _. ⌜ EarlierCount ⌝ }
+{
+}
+
+// Keeping one's sign when the section passes to another leads to a ring that nobody finds.
+pub fn new_sign_is_needed()
+    ensures { λ _. ⌜ KeptSign ⌝ }
+{
+}
+
+// Showing one's own sign again after a stop leads to a ring that nobody finds.
+pub fn showing_what_was_shown_is_needed()
+    ensures { λ _. ⌜ OwnSignAgain ⌝ }
 {
 }
