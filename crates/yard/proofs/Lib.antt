@@ -1,0 +1,16 @@
+pub mod Queues
+pub mod InTurn
+pub mod Views
+pub mod Places
+pub mod Signs
+pub mod Relays
+pub mod Covered
+pub mod Sound
+pub mod Promised
+pub mod Rounds
+pub mod Standing
+pub mod Beginnings
+pub mod Telling
+pub mod EveryRun
+pub mod Lost
+pub mod Runs
