@@ -1,0 +1,5 @@
+pub mod Range
+pub mod Table
+pub mod Reading
+pub mod Written
+pub mod Promises
