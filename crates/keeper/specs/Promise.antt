@@ -48,7 +48,7 @@ Followed before c after (verdict.Again a) = (after ≡ before) × UsedUp before 
 Followed before c after (verdict.AtLimit a) = (after ≡ before) × IsNext before c × (a .reply ≡ reply.Refused refusal.Exhausted) × Names after c a
 Followed before c after (verdict.Refused r a) = (after .table ≡ before .table) × IsNext before c × (a .reply ≡ reply.Refused r) × UsedUp after c a × Names after c a
 Followed before c after (verdict.Done a) = WasDone before c after a
-Followed before c after (verdict.PassedOn a) = WasDone before c after a × (a .holder ≡ holder.Nobody → ⊥)
+Followed before c after (verdict.PassedOn a) = WasDone before c after a × ((next : ℕ) × (a .holder ≡ holder.Engine (record { 0 = next })))
 
 -- the verdict on the same call at once again
 abbrev pub onceMore : Verdict → Verdict

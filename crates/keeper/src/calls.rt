@@ -1,10 +1,10 @@
 // Calls to a box's sections, and the same from its file.
 ghost use mathlib.Core.Path.{_≡_};
 ghost use mathlib.Core.Bool.{_&&_};
-ghost use Prim.Native.Nat.{_+_};
+ghost use Prim.Native.Nat.{_+_, _<_};
 ghost use lib.Dec.{eqb, ltb};
 ghost use Rattle.keeper.specs.Model.{fresh, last-of, modelOf};
-ghost use Rattle.keeper.specs.Calls.{applyOf, callOf, turnOf};
+ghost use Rattle.keeper.specs.Calls.{applyOf, callOf, numberedOf, turnOf};
 ghost use Rattle.keeper.specs.Promise.{AnsweredAgain, Followed, OneSection, Risen};
 use crate::Keeper;
 use crate::NEVER;
@@ -59,7 +59,15 @@ impl Keeper {
         if engine >= ENGINES || call.section.place >= PLACES {
             return Verdict::Malformed;
         }
-        let last = self.calls[engine as usize];
+        self.numbered(call)
+    }
+
+    // A call of one of the table's engines, by its number.
+    fn numbered(&mut self, call: Call) -> Verdict
+        requires { ⌜ call .engine .0 < 64 ⌝ }
+        ensures { λ r. ⌜ (modelOf (now (self .exit)), r) ≡ numberedOf (turnOf (last-of (modelOf (now (self .entry))) (call .engine .0) .number) (call .number)) (modelOf (now (self .entry))) call ⌝ }
+    {
+        let last = self.calls[call.engine.0 as usize];
         match turn_of(last.number, call.number) {
             Turn::Last => Verdict::Again(last.answer),
             Turn::Next => self.tried(call),
