@@ -33,7 +33,7 @@ use Rattle.messages.specs.Table.{actByte, bytesOf, callBytes, eight, four, hol
 use Rattle.messages.proofs.Numbers.{eight-of, four-of}
 
 -- n places of a list from i on
-abbrev places : ℕ → ℕ → List ℕ → List ℕ
+abbrev pub places : ℕ → ℕ → List ℕ → List ℕ
 places i zero xs = []
 places i (suc n) xs = getD xs i 0 ∷ places (suc i) n xs
 
@@ -56,7 +56,7 @@ pub got : {A B : Type 0} (o : Option A) (f : A → Option B) (x : B) → andThen
 got None f x p = absurd (clash x p)
 got (Some a) f x p = (a, (refl, p))
 
-some : {A : Type 0} (x y : A) → Some x ≡ Some y → x ≡ y
+pub some : {A : Type 0} (x y : A) → Some x ≡ Some y → x ≡ y
 some x y p = cc
 
 pub engine-got : (y : Yard) (n : ℕ) (e : Engine) → engineOf y n ≡ Some e → (n < y .engines) × (e ≡ record { 0 = n })
@@ -212,7 +212,7 @@ answer-got y xs m b is =
     ∙ (ap (λ (l : List ℕ). 4 ∷ places 0 11 xs ++ l) (r .2)
     ∙ ap (λ (l : List ℕ). 4 ∷ l) (sym (places-then 11 0 xs (leb-true 11 (length xs) (w .0)))))))))
 
-by-kind : {A : Type 0} (k n : ℕ) (x o : Option A) (z : A) (P : ℕ → Type 0) → cond (eqb k n) x o ≡ Some z → (x ≡ Some z → P n) → (o ≡ Some z → P k) → P k
+pub by-kind : {A : Type 0} (k n : ℕ) (x o : Option A) (z : A) (P : ℕ → Type 0) → cond (eqb k n) x o ≡ Some z → (x ≡ Some z → P n) → (o ≡ Some z → P k) → P k
 by-kind k n x o z P is f g =
   elim (branch (eqb k n) x o z is) [ inl q ↦ subst P (sym (eqb-true k n (q .0))) (f (q .1)) | inr q ↦ g (q .1) ]
 

@@ -6,3 +6,5 @@ pub mod Lengths
 pub mod Forms
 pub mod Cuts
 pub mod Decided
+pub mod Journal
+pub mod Fronts

@@ -3,3 +3,4 @@ pub mod Table
 pub mod Reading
 pub mod Written
 pub mod Promises
+pub mod Journal

@@ -5,6 +5,7 @@ mod decoder;
 mod encoder;
 mod encoded;
 mod promises;
+mod records;
 
 pub use decoder::decode;
 pub use encoder::encode;
@@ -21,6 +22,8 @@ pub use promises::cut_refused;
 pub use promises::none_begins_another;
 pub use promises::one_form;
 pub use promises::reads_back;
+pub use records::First;
+pub use records::reading::encode_record;
 pub use yard::BoxNumber;
 pub use yard::Engine;
 pub use yard::Section;
