@@ -39,7 +39,8 @@ fn is_home_of_any(yard: Yard, number: BoxNumber, queue: &[u8]) -> bool
 fn is_told(yard: Yard, number: BoxNumber, sections: &Sections, place: u8) -> bool
     ensures { λ r. ⌜ r ≡ toldOf yard (number .0) (tableOf (now (sections .entry))) place ⌝ }
 {
-    is_home_of_holder(yard, number, sections.holder(place)) || is_home_of_any(yard, number, sections.queue(place))
+    is_home_of_holder(yard, number, sections.holder(place))
+        || is_home_of_any(yard, number, sections.queue(place))
 }
 
 impl Keeper {

@@ -37,7 +37,7 @@ use Rattle.keeper.specs.Words.{holderOf, verdictOf}
 use Rattle.keeper.specs.Promise.{AnsweredAgain, Followed, IsNext, OneSection, Risen, UsedUp, onceMore}
 
 -- what a turn says of the numbers
-abbrev Means : ℕ → ℕ → Turn → Type 0
+abbrev pub Means : ℕ → ℕ → Turn → Type 0
 Means last n turn.Last = n ≡ last
 Means last n turn.Next = n ≡ last + 1
 Means last n turn.Other = n ≡ last + 1 → ⊥
@@ -129,7 +129,7 @@ module _ (k : State) (whole : length (k .calls) ≡ 64) (long : length (k .table
   ranges h = let parts = and-parts (ltb (c .engine .0) 64) (ltb (c .section .place) 64) h in (ltb-true (c .engine .0) 64 (parts .0), ltb-true (c .section .place) 64 (parts .1))
 
   -- a promise kept in each of the cases holds of the call
-  by-cases : (P : State × Verdict → Type 0) → P (k, verdict.Malformed) → ((c .engine .0 < 64) × (c .section .place < 64) → (t : Turn) → Means (last-of k (c .engine .0) .number) (c .number) t → P (numberedOf t k c)) → P (callOf k c)
+  pub by-cases : (P : State × Verdict → Type 0) → P (k, verdict.Malformed) → ((c .engine .0 < 64) × (c .section .place < 64) → (t : Turn) → Means (last-of k (c .engine .0) .number) (c .number) t → P (numberedOf t k c)) → P (callOf k c)
   by-cases P nothing go =
       cond-both (known (c .engine .0) (c .section .place)) _ _ P
       (λ h. go (ranges h) _ (turn-means (last-of k (c .engine .0) .number) (c .number)))
@@ -155,6 +155,7 @@ module _ (k : State) (whole : length (k .calls) ≡ 64) (long : length (k .table
       ruled h n t (Err not.Waiting) q = (do-err (c .act) (k .table) (c .engine .0) (c .section .place) t not.Waiting q, n, refl, used-up (h .0) _, (refl, refl))
       ruled h n t (Err not.Mismatch) q = (do-err (c .act) (k .table) (c .engine .0) (c .section .place) t not.Mismatch q, n, refl, used-up (h .0) _, (refl, refl))
       ruled h n t (Err not.AtLimit) q = (unchanged t (do-err (c .act) (k .table) (c .engine .0) (c .section .place) t not.AtLimit q), n, refl, (refl, refl))
+
       numbered : (c .engine .0 < 64) × (c .section .place < 64) → (t : Turn) → Means (last-of k (c .engine .0) .number) (c .number) t → Followed k c (numberedOf t k c .0) (numberedOf t k c .1)
       numbered h turn.Last n = (refl, ap (λ (m : ℕ). record { number = m; answer = last-of k (c .engine .0) .answer }) (sym n))
       numbered h turn.Next n = ruled h n (askOf (k .table) c .0) (askOf (k .table) c .1) refl
@@ -172,7 +173,7 @@ module _ (k : State) (whole : length (k .calls) ≡ 64) (long : length (k .table
   risen = by-cases (λ s. Risen k c (s .0)) (λ e. inl refl) numbered
     where
       used : IsNext k c → (v : Verdict) (e : ℕ) → e ≡ c .engine .0 → (x : LastCall) → x ≡ usedOf (last-of k (c .engine .0)) (c .number) v →
-        (x ≡ last-of k e) ⊎ ((e ≡ c .engine .0) × IsNext k c × (x .number ≡ c .number))
+          (x ≡ last-of k e) ⊎ ((e ≡ c .engine .0) × IsNext k c × (x .number ≡ c .number))
       used n verdict.Malformed e q x r = inl (r ∙ ap (last-of k) (sym q))
       used n verdict.PassedOver e q x r = inl (r ∙ ap (last-of k) (sym q))
       used n (verdict.Again a) e q x r = inl (r ∙ ap (last-of k) (sym q))
@@ -180,12 +181,15 @@ module _ (k : State) (whole : length (k .calls) ≡ 64) (long : length (k .table
       used n (verdict.Refused y a) e q x r = inr (q, n, ap (λ (z : LastCall). z .number) r)
       used n (verdict.Done a) e q x r = inr (q, n, ap (λ (z : LastCall). z .number) r)
       used n (verdict.PassedOn a) e q x r = inr (q, n, ap (λ (z : LastCall). z .number) r)
+
       after : c .engine .0 < 64 → IsNext k c → (t : Table) (v : Verdict) → Risen k c (keptOf k c t v .0)
       after h n t v e =
           let x = usedOf (last-of k (c .engine .0)) (c .number) v in
           elim (cases-eq e (c .engine .0)) [
-              inl q ↦ used n v e q (getD (set (k .calls) (c .engine .0) x) e never) (ap (λ i. getD (set (k .calls) (c .engine .0) x) i never) q ∙ used-up h x)
-            | inr q ↦ inl (getD-set-other (k .calls) (c .engine .0) e x never q) ]
+            | inl q ↦ used n v e q (getD (set (k .calls) (c .engine .0) x) e never) (ap (λ i. getD (set (k .calls) (c .engine .0) x) i never) q ∙ used-up h x)
+            | inr q ↦ inl (getD-set-other (k .calls) (c .engine .0) e x never q)
+          ]
+
       numbered : (c .engine .0 < 64) × (c .section .place < 64) → (t : Turn) → Means (last-of k (c .engine .0) .number) (c .number) t → Risen k c (numberedOf t k c .0)
       numbered h turn.Last n = λ e. inl refl
       numbered h turn.Next n =
@@ -194,7 +198,7 @@ module _ (k : State) (whole : length (k .calls) ≡ 64) (long : length (k .table
       numbered h turn.Other n = λ e. inl refl
 
   -- a call that is its engine's last is answered as it was
-  repeated : (after : State) (a : Answer) → known (c .engine .0) (c .section .place) ≡ true → (c .number ≡ 0 → ⊥) → UsedUp after c a → callOf after c ≡ (after, verdict.Again a)
+  pub repeated : (after : State) (a : Answer) → known (c .engine .0) (c .section .place) ≡ true → (c .number ≡ 0 → ⊥) → UsedUp after c a → callOf after c ≡ (after, verdict.Again a)
   repeated after a h n u =
       ap (λ b. cond b (numberedOf (turnOf (last-of after (c .engine .0) .number) (c .number)) after c) (after, verdict.Malformed)) h ∙
       ap (λ (x : LastCall). numberedOf (turnOf (x .number) (c .number)) after c) u ∙
@@ -216,8 +220,9 @@ module _ (k : State) (whole : length (k .calls) ≡ 64) (long : length (k .table
   in-range : (after : State) (v : Verdict) → (after, v) ≡ callOf k c → IsMalformed v ≡ 0 → known (c .engine .0) (c .section .place) ≡ true
   in-range after v q z =
       elim (cases-bool (known (c .engine .0) (c .section .place))) [
-          inl h ↦ h
-        | inr h ↦ let one : _≡_ {A = ℕ} 0 1 = sym z ∙ ap (λ s. IsMalformed (s .1)) (q ∙ out-of-range h) in absurd (omega arith) ]
+        | inl h ↦ h
+        | inr h ↦ let one : _≡_ {A = ℕ} 0 1 = sym z ∙ ap (λ s. IsMalformed (s .1)) (q ∙ out-of-range h) in absurd (omega arith)
+      ]
 
   same : (after : State) (v : Verdict) → (after, v) ≡ callOf k c → after ≡ k → callOf after c ≡ (after, v)
   same after v q h = ap (λ s. callOf s c) h ∙ sym q
