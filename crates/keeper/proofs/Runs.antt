@@ -58,7 +58,7 @@ still earlier [] c a u none = u
 still earlier (d ∷ later) c a u none =
     let v : UsedUp (after (later ++ earlier)) c a = still earlier later c a u (none .1) in
     elim (risen-after (later ++ earlier) d (c .engine .0)) [
-        inl q ↦ q ∙ v
+      | inl q ↦ q ∙ v
       | inr q ↦ absurd (none .0 (sym (q .0)) (q .1 ∙ ap (λ e. last-of (after (later ++ earlier)) e .number + 1) (sym (q .0)) ∙ ap (λ (x : LastCall). x .number + 1) v))
     ]
 
@@ -73,7 +73,7 @@ numbers-rise earlier [] e = omega arith
 numbers-rise earlier (d ∷ later) e =
     let rest = numbers-rise earlier later e in
     elim (risen-after (later ++ earlier) d e) [
-        inl q ↦ let same = ap (λ (x : LastCall). x .number) q in omega arith
+      | inl q ↦ let same = ap (λ (x : LastCall). x .number) q in omega arith
       | inr q ↦ let here = ap (λ i. last-of (after (later ++ earlier)) i .number) (q .0) in let next = q .1 in let now = q .2 in omega arith
     ]
 
@@ -97,7 +97,7 @@ recorded k c s (verdict.Done a) f h = f .0
 recorded k c s (verdict.PassedOn a) f h = f .0 .0
 
 replays-more : (calls : List Call) (c : Call) → (after (records calls) ≡ after calls) × AllNext (records calls) → (b : Bool) → isRecorded (callOf (after calls) c .1) ≡ b →
-  (after (cond b (c ∷ records calls) (records calls)) ≡ after (c ∷ calls)) × AllNext (cond b (c ∷ records calls) (records calls))
+    (after (cond b (c ∷ records calls) (records calls)) ≡ after (c ∷ calls)) × AllNext (cond b (c ∷ records calls) (records calls))
 replays-more calls c rest true h =
     let full = full-after calls in
     let next = recorded (after calls) c (callOf (after calls) c .0) (callOf (after calls) c .1) (followed (after calls) (full .0) (full .1) c) h in

@@ -4,3 +4,4 @@ pub mod Calls
 pub mod Promise
 pub mod Homes
 pub mod Runs
+pub mod Range

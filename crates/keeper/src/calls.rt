@@ -6,6 +6,7 @@ ghost use lib.Dec.{eqb, ltb};
 ghost use Rattle.keeper.specs.Model.{fresh, last-of, modelOf};
 ghost use Rattle.keeper.specs.Calls.{applyOf, callOf, numberedOf, turnOf};
 ghost use Rattle.keeper.specs.Promise.{AnsweredAgain, Followed, OneSection, Risen};
+ghost use Rattle.keeper.specs.Range.{StaysWithin};
 use crate::Keeper;
 use crate::NEVER;
 use crate::Verdict;
@@ -54,6 +55,7 @@ impl Keeper {
         ensures again { λ r. ⌜ AnsweredAgain call (modelOf (now (self .exit))) r ⌝ }
         ensures elsewhere { λ _. ⌜ OneSection (modelOf (now (self .entry))) call (modelOf (now (self .exit))) ⌝ }
         ensures risen { λ _. ⌜ Risen (modelOf (now (self .entry))) call (modelOf (now (self .exit))) ⌝ }
+        ensures within { λ r. ⌜ StaysWithin (modelOf (now (self .entry))) call (modelOf (now (self .exit))) r ⌝ }
     {
         let engine = call.engine.0;
         if engine >= ENGINES || call.section.place >= PLACES {
