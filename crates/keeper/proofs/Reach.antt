@@ -5,8 +5,9 @@ use mathlib.Core.Bool.{Bool, true, false, cond, not, _&&_, _||_}
 use mathlib.Core.List.{List, [], _∷_, _++_}
 use Prim.Native.Nat.{ℕ, _+_, _<_}
 use lib.Dec.{eqb, ltb}
-use lib.ListN.{length, getD, set}
-use Rattle.std.proofs.shelf.Tests.{and-parts, both-ways, cond-both, eq-eqb, eqb-true, or-cases, or-left, or-right}
+use lib.ListN.{length, getD, replicate, set}
+use Rattle.std.proofs.shelf.Lists.{getD-past, getD-replicate, length-replicate}
+use Rattle.std.proofs.shelf.Tests.{and-parts, both-ways, cases-lt, cond-both, eq-eqb, eqb-true, or-cases, or-left, or-right}
 use Rattle.std.specs.declared.option.Option.{Option}
 use Rattle.std.specs.declared.option.Option.the-variants.{Some, None}
 use Rattle.std.specs.declared.result.Result.{Result}
@@ -22,7 +23,7 @@ use Rattle.sections.specs.declared.Holder.{Holder}
 use Rattle.sections.specs.declared.Holder.the-variants as has
 use Rattle.sections.specs.declared.Refusal.{Refusal}
 use Rattle.sections.specs.declared.Refusal.the-variants as refused
-use Rattle.sections.specs.Table.{Outcome, Section, Table, changeable, firstOf, freeBy, freeOutcome, giveUpOutcome, giveUpSection, isIn, known, passOn, refusalOf, restOf, section-of, settle, takeBy, takeOutcome, unless, without}
+use Rattle.sections.specs.Table.{Outcome, Section, Table, changeable, firstOf, freeBy, freeOutcome, giveUpOutcome, giveUpSection, idle, isIn, known, passOn, refusalOf, restOf, section-of, settle, takeBy, takeOutcome, unless, without}
 use Rattle.sections.proofs.Lists.{isIn-push, isIn-without}
 use Rattle.sections.proofs.Sound.{not-both, same-engine}
 use Rattle.sections.proofs.Tables.{put-read, set-read}
@@ -32,11 +33,13 @@ use Rattle.keeper.specs.declared.Verdict.{Verdict}
 use Rattle.keeper.specs.declared.Verdict.the-variants as verdict
 use Rattle.keeper.specs.declared.calls.Turn.{Turn}
 use Rattle.keeper.specs.declared.calls.Turn.the-variants as turn
-use Rattle.keeper.specs.Model.{State, last-of, never}
+use Rattle.keeper.specs.Model.{State, fresh, last-of, never}
 use Rattle.keeper.specs.Calls.{answerOf, askOf, callOf, doBy, keptOf, numberedOf, ruledOf, usedOf}
 use Rattle.keeper.specs.Words.{holderOf, verdictOf}
-use Rattle.keeper.specs.Range.{AnswerIn, SectionWithin, StaysWithin, VerdictIn, Within}
+use Rattle.keeper.specs.Runs.{after}
+use Rattle.keeper.specs.Range.{AnswerIn, STAYS-IN-YARD, SectionWithin, StaysWithin, VerdictIn, Within}
 use Rattle.keeper.proofs.OneCall.{Means, by-cases}
+use Rattle.keeper.proofs.Runs.{full-after}
 
 module _ (y : Yard) where
   -- what a call makes of a section within the yard is within it
@@ -136,3 +139,16 @@ stays-within k whole long c y h w = by-cases k whole long c (λ s. Within y (s .
         let i = verdict-in y (asked .0) (c .section .place) (asked .1) all in
         (kept-within y k c (asked .0) (verdictOf (answerOf (asked .0) (c .section .place) (asked .1)) (asked .1)) all i w, i)
     numbered _ turn.Other n = (w, tt)
+
+-- a keeper that nobody called names nobody
+everywhere : {X : Type 0} (x : X) (i : ℕ) → getD (replicate 64 x) i x ≡ x
+everywhere x i = elim (cases-lt i 64) [ inl h ↦ getD-replicate 64 i x x h | inr h ↦ getD-past (replicate 64 x) i x (rw (length-replicate 64 x) h) ]
+
+fresh-within : (y : Yard) → Within y fresh
+fresh-within y = (λ p. rw (everywhere idle p) (λ e q. absurd (not-both has.Free e q refl), λ e w. absurd (both-ways false refl w)), λ e. rw (everywhere never e) (tt, tt))
+
+pub stays-in-yard : STAYS-IN-YARD
+stays-in-yard y [] h = fresh-within y
+stays-in-yard y (c ∷ calls) h =
+    let full = full-after calls in
+    stays-within (after calls) (full .0) (full .1) c y (h .0) (stays-in-yard y calls (h .1)) .0

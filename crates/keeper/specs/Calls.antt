@@ -20,6 +20,7 @@ use Rattle.keeper.specs.declared.calls.Turn.the-variants as turn
 use Rattle.keeper.specs.Model.{State, last-of}
 use Rattle.keeper.specs.Words.{holderOf, replyOf, verdictOf}
 
+-- the sections' own step for each kind of call
 abbrev pub doBy : Act → Table → ℕ → ℕ → Table × Result Done Refusal
 doBy act.Take t e p = takeOf t e p
 doBy act.Free t e p = freeOf t e p
@@ -47,6 +48,7 @@ usedOf last n (verdict.PassedOn a) = record { number = n; answer = a }
 abbrev pub keptOf : State → Call → Table → Verdict → State × Verdict
 keptOf k c t v = (record { table = t; calls = set (k .calls) (c .engine .0) (usedOf (last-of k (c .engine .0)) (c .number) v) }, v)
 
+-- what came of a call, by the sections afterwards and their answer
 abbrev pub ruledOf : State → Call → Table × Result Done Refusal → State × Verdict
 ruledOf k c asked = keptOf k c (asked .0) (verdictOf (answerOf (asked .0) (c .section .place) (asked .1)) (asked .1))
 
@@ -58,6 +60,7 @@ triedOf k c = ruledOf k c (askOf (k .table) c)
 abbrev pub turnOf : ℕ → ℕ → Turn
 turnOf last n = cond (eqb n 0) turn.Other (cond (eqb n last) turn.Last (cond (eqb n (last + 1)) turn.Next turn.Other))
 
+-- a call by how its number stands: answered again, put to the sections, or passed over
 abbrev pub numberedOf : Turn → State → Call → State × Verdict
 numberedOf turn.Last k c = (k, verdict.Again (last-of k (c .engine .0) .answer))
 numberedOf turn.Next k c = triedOf k c

@@ -24,6 +24,7 @@ abbrev pub homeOfAny : Yard → ℕ → List ℕ → Bool
 homeOfAny y b [] = false
 homeOfAny y b (e ∷ es) = eqb (homeOf y e) b || homeOfAny y b es
 
+-- is a box told of a change of the section at a place
 abbrev pub toldOf : Yard → ℕ → Table → ℕ → Bool
 toldOf y b t place = homeOfHolder y b (holder-of t place) || homeOfAny y b (queue-of t place)
 

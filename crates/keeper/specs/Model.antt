@@ -9,10 +9,12 @@ use Rattle.sections.specs.Model.{tableOf}
 use Rattle.keeper.specs.declared.Keeper.{Keeper}
 use Rattle.keeper.specs.declared.LastCall.{LastCall}
 
+-- a box's sections by place, and the last calls by engine
 pub record State : Type 0 where
   pub table : Table
   pub calls : List LastCall
 
+-- what a keeper in memory stands for
 abbrev pub modelOf : Keeper → State
 modelOf k = record { table = tableOf (k .sections); calls = k .calls }
 

@@ -28,22 +28,26 @@ use Rattle.keeper.specs.declared.Answer.{Answer}
 use Rattle.keeper.specs.declared.Verdict.{Verdict}
 use Rattle.keeper.specs.declared.Verdict.the-variants as verdict
 
+-- who has a section
 abbrev pub holderOf : SectionHolder → Holder
 holderOf has.Free = holder.Nobody
 holderOf (has.Engine e) = holder.Engine (record { 0 = e })
 
+-- why a call is refused
 abbrev pub refusalOf : SectionRefusal → Refusal
 refusalOf not.OutOfRange = refusal.Malformed
 refusalOf not.Waiting = refusal.Waiting
 refusalOf not.Mismatch = refusal.Mismatch
 refusalOf not.AtLimit = refusal.Exhausted
 
+-- what a call that was done is answered
 abbrev pub doneReply : Done → Reply
 doneReply did.Had = reply.Done
 doneReply (did.Waits _) = reply.Waits
 doneReply (did.LetGo _) = reply.Done
 doneReply did.Left = reply.Done
 
+-- what a call is answered
 abbrev pub replyOf : Result Done SectionRefusal → Reply
 replyOf (Ok done) = doneReply done
 replyOf (Err r) = reply.Refused (refusalOf r)
@@ -57,6 +61,7 @@ abbrev pub letGo : Answer → SectionHolder → Verdict
 letGo a has.Free = verdict.Done a
 letGo a (has.Engine _) = verdict.PassedOn a
 
+-- the verdict on a call that was done
 abbrev pub doneOf : Answer → Done → Verdict
 doneOf a did.Had = verdict.Done a
 doneOf a (did.Waits _) = verdict.Done a
