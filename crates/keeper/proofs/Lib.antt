@@ -1,0 +1,4 @@
+pub mod OneCall
+pub mod Concern
+pub mod Runs
+pub mod Reach
