@@ -10,7 +10,7 @@ use lib.Dec.{ltb}
 use Rattle.std.proofs.shelf.Bits.{mod-mul-add, mod-below}
 use Rattle.std.proofs.shelf.Tests.{cases-lt, lt-ltb, le-ltb}
 use Rattle.signs.specs.Signs.{aheadOf, nextOwn}
-use Rattle.signs.specs.Lowest.{Lowest, OWN-IS-LOWEST}
+use Rattle.signs.specs.Lowest.{Lowest}
 
 multiple :
     (k engines me shown : ℕ) → me < engines → shown < k * engines + me → k * engines + me ≤ shown + engines →
@@ -29,7 +29,7 @@ multiple k engines me shown below above near =
           ];
     }
 
-pub own-is-lowest : OWN-IS-LOWEST
+pub own-is-lowest : (shown me engines : ℕ) → me < engines → Lowest shown me engines (nextOwn shown me engines)
 own-is-lowest shown me engines below =
     let q : ℕ = shown / engines in
     let whole : q * engines + shown % engines ≡ shown = div-add-mod' shown engines in

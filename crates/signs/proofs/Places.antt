@@ -7,16 +7,12 @@ use Prim.Native.Nat.{ℕ, zero, suc, _+_, _<_}
 use native.Mathlib.Omega.{arith}
 use lib.ListN.{length, getD, set, replicate, length-set}
 use lib.Seq.{getD-set-same, getD-set-other}
+use Rattle.std.proofs.shelf.Counted.{getD-counting}
 use Rattle.std.proofs.shelf.Lists.{getD-replicate}
 use Rattle.signs.specs.declared.Wait.{Wait}
 use Rattle.signs.specs.declared.Wait.the-variants.{Nobody}
 use Rattle.signs.specs.declared.Engine.{Engine}
-use Rattle.signs.specs.Table.{FRESH-SIGNS, PUT-ONE, Sized, engineAt, with, countFrom, freshOf}
-
-counted : (n i k : ℕ) → k < n → getD (countFrom n i) k 0 ≡ i + k
-counted zero i k h = absurd (omega arith)
-counted (suc n) i zero h = omega arith
-counted (suc n) i (suc k) h = omega (arith, counted n (suc i) k (omega arith))
+use Rattle.signs.specs.Table.{FRESH-SIGNS, PUT-ONE, Sized, engineAt, with, freshOf}
 
 same-engine :
     {w v : Wait} {c d s t o p : ℕ} → w ≡ v → c ≡ d → s ≡ t → o ≡ p →
@@ -28,7 +24,7 @@ fresh-signs = (
   record { waits = refl; counts = refl; shown = refl; own = refl },
   λ e h.
       same-engine
-      (getD-replicate 64 e Nobody Nobody h) (getD-replicate 64 e 0 0 h) (omega (arith, counted 64 0 e h)) (omega (arith, counted 64 0 e h)),
+      (getD-replicate 64 e Nobody Nobody h) (getD-replicate 64 e 0 0 h) (omega (arith, getD-counting 0 64 e 0 h)) (omega (arith, getD-counting 0 64 e 0 h)),
 )
 
 pub put-one : PUT-ONE

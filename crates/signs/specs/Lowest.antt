@@ -2,14 +2,9 @@
 -- Assumes nothing.
 use mathlib.Core.Path.{_≡_}
 use Prim.Native.Nat.{ℕ, _%_, _<_, _≤_}
-use Rattle.signs.specs.Signs.{nextOwn}
 
 -- sign is above the one shown, leaves me when divided by engines, and no number between does
 pub record Lowest (shown me engines sign : ℕ) : Type 0 where
   pub above : shown < sign
   pub leaves : sign % engines ≡ me
   pub lowest : (other : ℕ) → shown < other → other % engines ≡ me → sign ≤ other
-
--- the sign that an engine takes when it begins to wait is the lowest such
-abbrev pub OWN-IS-LOWEST : Type 0
-OWN-IS-LOWEST = (shown me engines : ℕ) → me < engines → Lowest shown me engines (nextOwn shown me engines)

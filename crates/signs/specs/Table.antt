@@ -6,6 +6,7 @@ use mathlib.Core.List.{List, [], _∷_}
 use Prim.Native.Nat.{ℕ, zero, suc, _<_}
 use lib.Dec.{ltb}
 use lib.ListN.{length, getD, set, replicate}
+use Rattle.std.specs.Iters.{counting}
 use Rattle.std.specs.declared.result.Result.{Result}
 use Rattle.std.specs.declared.result.Result.the-variants.{Ok, Err}
 use Rattle.signs.specs.declared.Wait.{Wait}
@@ -15,14 +16,9 @@ use Rattle.signs.specs.declared.table.Engines.{Engines}
 use Rattle.signs.specs.declared.Refusal.{Refusal}
 use Rattle.signs.specs.declared.Refusal.the-variants.{OutOfRange}
 
--- so many numbers, from one on
-abbrev pub countFrom : ℕ → ℕ → List ℕ
-countFrom zero i = []
-countFrom (suc n) i = i ∷ countFrom n (suc i)
-
 -- nobody waits, none has begun, and every engine's sign is its number
 abbrev pub freshOf : Engines
-freshOf = record { waits = replicate 64 Nobody; counts = replicate 64 0; shown = countFrom 64 0; own = countFrom 64 0 }
+freshOf = record { waits = replicate 64 Nobody; counts = replicate 64 0; shown = counting 0 64; own = counting 0 64 }
 
 -- the engine that stands at a place of the table
 abbrev pub engineAt : Engines → ℕ → Engine

@@ -1,8 +1,10 @@
 // An engine that waits for another, and its signs: it begins to wait, hears what is told, and finds that it stands in a ring of waits.
 ghost use mathlib.Core.Path.{_≡_};
-ghost use Prim.Native.Nat.{_<_, _≤_};
-ghost use Rattle.signs.specs.Signs.{numberOf, aheadOf, waitsBy, beginOf, hearOf, findOf, listenOf};
-ghost use Rattle.signs.specs.Lowest.{OWN-IS-LOWEST};
+ghost use Prim.Native.Nat.{_^_, _<_, _≤_};
+ghost use Rattle.signs.specs.Signs.{numberOf, aheadOf, nextOwn, waitsBy, beginOf, hearOf, findOf, listenOf};
+ghost use Rattle.signs.specs.Lowest.{Lowest};
+ghost use Rattle.std.specs.Numbers.{Checked};
+ghost use Rattle.std.specs.Results.{Cases};
 
 pub mod table;
 
@@ -65,11 +67,20 @@ fn ahead(shown: u64, me: u8, engines: u8) -> u64
     }
 }
 
+// The lowest number above `shown` that leaves `me` when divided by `engines`; none where it passes eight bytes.
+fn next_own(shown: u64, me: u8, engines: u8) -> Option<u64>
+    requires { ⌜ 1 ≤ engines ⌝ ∗ ⌜ me < engines ⌝ }
+    ensures value { λ r. ⌜ Checked r (nextOwn shown me engines < 2 ^ 64) (nextOwn shown me engines) ⌝ }
+    ensures lowest { λ _. ⌜ Lowest shown me engines (nextOwn shown me engines) ⌝ }
+{
+    shown.checked_add(ahead(shown, me, engines))
+}
+
 impl Engine {
     // Begins to wait for `whom`, also where it waited for another before.
     pub fn begin(self, me: u8, engines: u8, whom: u8) -> Result<Engine, Refusal>
         ensures value { λ r. ⌜ r ≡ beginOf self me engines whom ⌝ }
-        ensures lowest { λ _. ⌜ OWN-IS-LOWEST ⌝ }
+        ensures lowest { λ r. ⌜ Cases r (λ e. Lowest (self .shown) me engines (e .own)) (λ _. Unit {0}) ⌝ }
     {
         if engines == 0 || engines > 64 || me >= engines || whom >= engines {
             return Err(Refusal::OutOfRange);
@@ -77,7 +88,7 @@ impl Engine {
         if whom == me {
             return Err(Refusal::Itself);
         }
-        let Some(own) = self.shown.checked_add(ahead(self.shown, me, engines)) else {
+        let Some(own) = next_own(self.shown, me, engines) else {
             return Err(Refusal::Limit);
         };
         let Some(count) = self.count.checked_add(1) else {
@@ -110,10 +121,8 @@ impl Engine {
         }
         if self.shown < sign {
             let after = Engine {
-                wait: self.wait,
-                count: self.count,
                 shown: sign,
-                own: self.own,
+                ..self
             };
             return Ok((after, Heard::TellOn(sign)));
         }
@@ -130,9 +139,7 @@ impl Engine {
         if sign == self.own && self.shown == self.own {
             let after = Engine {
                 wait: Wait::Nobody,
-                count: self.count,
-                shown: self.shown,
-                own: self.own,
+                ..self
             };
             return Ok((after, Heard::Found));
         }

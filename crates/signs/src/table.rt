@@ -1,5 +1,6 @@
 // The table of a yard's sixty-four engines, changed at one engine at a time.
 ghost use mathlib.Core.Path.{_≡_};
+ghost use Rattle.std.specs.Iters.{counting};
 ghost use Rattle.signs.specs.Table.{freshOf, getOf, putOf, FRESH-SIGNS, PUT-ONE};
 use super::Engine;
 use super::Refusal;
@@ -7,74 +8,6 @@ use super::Wait;
 
 // How many engines a yard has at most.
 pub const ENGINES: u8 = 64;
-
-// Every engine's number, the first sign that it shows.
-const NUMBERS: [u64; 64] = [
-    0,
-    1,
-    2,
-    3,
-    4,
-    5,
-    6,
-    7,
-    8,
-    9,
-    10,
-    11,
-    12,
-    13,
-    14,
-    15,
-    16,
-    17,
-    18,
-    19,
-    20,
-    21,
-    22,
-    23,
-    24,
-    25,
-    26,
-    27,
-    28,
-    29,
-    30,
-    31,
-    32,
-    33,
-    34,
-    35,
-    36,
-    37,
-    38,
-    39,
-    40,
-    41,
-    42,
-    43,
-    44,
-    45,
-    46,
-    47,
-    48,
-    49,
-    50,
-    51,
-    52,
-    53,
-    54,
-    55,
-    56,
-    57,
-    58,
-    59,
-    60,
-    61,
-    62,
-    63,
-];
 
 #[derive(Clone, Copy)]
 pub struct Engines {
@@ -84,17 +17,28 @@ pub struct Engines {
     own: [u64; 64],
 }
 
+// The first sign of every engine: its number.
+fn numbers() -> [u64; 64]
+    ensures { λ r. ⌜ r ≡ counting 0 64 ⌝ }
+{
+    let mut signs = [0; 64];
+    for e in 0u8..ENGINES {
+        signs[e as usize] = e as u64;
+    }
+    signs
+}
+
 impl Engines {
     // Nobody waits, and every engine shows its number.
     pub fn new() -> Engines
-        ensures value { λ r. ⌜ r ≡ freshOf ⌝ }
-        ensures signs { λ _. ⌜ FRESH-SIGNS ⌝ }
+        ensures { λ r. ⌜ r ≡ freshOf ⌝ }
     {
+        let signs = numbers();
         Engines {
             waits: [Wait::Nobody; 64],
             counts: [0; 64],
-            shown: NUMBERS,
-            own: NUMBERS,
+            shown: signs,
+            own: signs,
         }
     }
 
@@ -128,4 +72,11 @@ impl Engines {
         self.own[i] = engine.own;
         Ok(())
     }
+}
+
+// A fresh table has at each place an engine that waits for nobody and shows its number.
+pub fn fresh_signs() -> u8
+    ensures { λ _. ⌜ FRESH-SIGNS ⌝ }
+{
+    0
 }
