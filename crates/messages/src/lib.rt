@@ -1,7 +1,7 @@
 // Messages between boxes and records of a box's file: their bytes, and what is turned away.
-mod yard;
-mod message;
 mod decode;
+mod message;
+mod yard;
 
 pub use message::Act;
 pub use message::Call;
