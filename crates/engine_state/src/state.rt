@@ -1,6 +1,7 @@
 // One engine of a home by value: what is stored of it, and what is known besides.
 ghost use mathlib.Core.Path.{_≡_};
 ghost use Rattle.engine_state.specs.State.{wanted, modeSection, nextNumber, keptAfter, askedAfter, storedAfter, made, begun, heard, knowing};
+ghost use Rattle.engine_state.specs.Calls.{openOf, waitOf, hadOf, holdsOf, holdsAny, givingBack, nextCall, takeCall, freeCall};
 use crate::places::BOXES;
 use crate::places::Places;
 use crate::places::is_same;
@@ -261,5 +262,111 @@ impl State {
             known,
             signs: self.signs,
         }
+    }
+
+    // Is a call of the engine open.
+    pub fn open_call(self, engine: Engine) -> Option<Call>
+        ensures { λ r. ⌜ r ≡ openOf self engine ⌝ }
+    {
+        match (self.known, self.stored.mode) {
+            (Known::Pending, Mode::Called { act, section, number }) => Some(Call { act, engine, section, number }),
+            _ => None,
+        }
+    }
+
+    // The wait that stands.
+    pub fn wait(self) -> Option<Wait>
+        ensures { λ r. ⌜ r ≡ waitOf self ⌝ }
+    {
+        match (self.known, self.stored.mode, self.signs.wait) {
+            (Known::Pending, Mode::Waiting { section, change }, signs::Wait::For(whom)) => Some(Wait {
+                section,
+                whom: Engine(whom),
+                count: self.signs.count,
+                change,
+            }),
+            _ => None,
+        }
+    }
+
+    // The mode's section, if the engine is known to have got it.
+    fn had(self) -> Option<Section>
+        ensures { λ r. ⌜ r ≡ hadOf self ⌝ }
+    {
+        match self.known {
+            Known::Had => self.stored.mode.section(),
+            Known::Pending | Known::Closed => None,
+        }
+    }
+
+    pub fn holds(self, section: Section) -> bool
+        ensures { λ r. ⌜ r ≡ holdsOf self section ⌝ }
+    {
+        match self.had() {
+            Some(had) if is_same(had, section) => true,
+            Some(_) | None => self.stored.kept.has(section),
+        }
+    }
+
+    // Does it hold any section.
+    fn holds_any(self) -> bool
+        ensures { λ r. ⌜ r ≡ holdsAny self ⌝ }
+    {
+        match self.had() {
+            Some(_) => true,
+            None => !self.stored.kept.is_empty(),
+        }
+    }
+
+    // It gave up, and still holds what it has to free.
+    pub fn is_giving_back(self) -> bool
+        ensures { λ r. ⌜ r ≡ givingBack self ⌝ }
+    {
+        match self.stored.asked {
+            Asked::GaveUp => self.holds_any(),
+            Asked::Nothing | Asked::Took => false,
+        }
+    }
+
+    // The next call to a section's box.
+    fn next_call(self, act: Act, engine: Engine, section: Section) -> Result<Call, Refusal>
+        ensures { λ r. ⌜ r ≡ nextCall self act engine section ⌝ }
+    {
+        match self.stored.next_number(section.keeper) {
+            Some(number) => Ok(Call { act, engine, section, number }),
+            None => Err(Refusal::Exhausted),
+        }
+    }
+
+    // The call by which it takes a section.
+    pub fn take(self, engine: Engine, section: Section) -> Result<Call, Refusal>
+        ensures { λ r. ⌜ r ≡ takeCall self engine section ⌝ }
+    {
+        if self.open_call(engine).is_some() || self.is_giving_back() {
+            return Err(Refusal::WrongCall);
+        }
+        if self.wait().is_some() {
+            return Err(Refusal::Waiting);
+        }
+        if self.holds(section) {
+            return Err(Refusal::Mismatch);
+        }
+        self.next_call(Act::Take, engine, section)
+    }
+
+    // The call by which it frees a section.
+    pub fn free(self, engine: Engine, section: Section) -> Result<Call, Refusal>
+        ensures { λ r. ⌜ r ≡ freeCall self engine section ⌝ }
+    {
+        if self.open_call(engine).is_some() {
+            return Err(Refusal::WrongCall);
+        }
+        if self.wait().is_some() {
+            return Err(Refusal::Waiting);
+        }
+        if !self.holds(section) {
+            return Err(Refusal::Mismatch);
+        }
+        self.next_call(Act::Free, engine, section)
     }
 }

@@ -1,7 +1,7 @@
 // Messages between boxes and records of a box's file: their bytes, and what is turned away.
-mod decode;
-mod message;
 mod yard;
+mod message;
+mod decode;
 
 pub use message::Act;
 pub use message::Call;

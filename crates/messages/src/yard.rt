@@ -1,6 +1,5 @@
 // The numbers that name things in a yard, and how many of each there are.
 ghost use Prim.Native.Nat.{_≤_};
-
 pub mod checks;
 
 // An engine's number, from 0 on.
@@ -19,9 +18,7 @@ pub struct Section {
 }
 
 pub const MOST_BOXES: u8 = 16;
-
 pub const MOST_ENGINES: u8 = 64;
-
 pub const PLACES: u8 = 64;
 
 // How many boxes and engines there are: what is in range is decided by it alone.

@@ -60,10 +60,7 @@ impl Yard {
         ensures { λ r. ⌜ r ≡ sectionOf self keeper place ⌝ }
     {
         if keeper < self.boxes && place < PLACES {
-            Some(Section {
-                keeper: BoxNumber(keeper),
-                place,
-            })
+            Some(Section { keeper: BoxNumber(keeper), place })
         } else {
             None
         }
