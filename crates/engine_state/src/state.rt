@@ -329,7 +329,7 @@ impl State {
     }
 
     // The next call to a section's box.
-    fn next_call(self, act: Act, engine: Engine, section: Section) -> Result<Call, Refusal>
+    pub(crate) fn next_call(self, act: Act, engine: Engine, section: Section) -> Result<Call, Refusal>
         ensures { λ r. ⌜ r ≡ nextCall self act engine section ⌝ }
     {
         match self.stored.next_number(section.keeper) {
