@@ -4,6 +4,7 @@ mod places;
 mod state;
 
 pub use places::Places;
+pub use places::is_same;
 pub use state::Asked;
 pub use state::Event;
 pub use state::Known;
