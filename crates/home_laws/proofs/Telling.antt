@@ -3,7 +3,7 @@ use mathlib.Core.Path.{_≡_, refl, subst}
 use mathlib.Core.Bool.{Bool, true, false, cond, _&&_}
 use mathlib.Core.Logic.{_⊎_, inl, inr}
 use Prim.Native.Nat.{ℕ}
-use lib.Dec.{eqb, ltb}
+use lib.Dec.{eqb}
 use Rattle.std.specs.declared.option.Option.{Option}
 use Rattle.std.specs.declared.option.Option.the-variants.{Some, None}
 use Rattle.std.specs.declared.result.Result.{Result}
@@ -26,18 +26,36 @@ use Rattle.signs.specs.declared.Heard as sound
 use Rattle.signs.specs.declared.Heard.the-variants.{TellOn, Found, PassedOver}
 use Rattle.signs.specs.Signs.{beginOf, listenOf}
 use Rattle.engine_state.specs.declared.state.Event.{Event}
+use Rattle.engine_state.specs.declared.state.Event.the-variants as event
 use Rattle.engine_state.specs.declared.state.Known.{Known}
 use Rattle.engine_state.specs.declared.state.Known.the-variants as known
 use Rattle.engine_state.specs.declared.state.Mode.{Mode}
 use Rattle.engine_state.specs.declared.state.Mode.the-variants as mode
 use Rattle.engine_state.specs.declared.state.State.{State}
 use Rattle.engine_state.specs.declared.state.Wait.{Wait}
-use Rattle.engine_state.specs.Places.{sameSection}
 use Rattle.engine_state.specs.State.{knowing, nextNumber}
 use Rattle.engine_state.specs.Calls.{ifPending, callOfMode, openOf, waitOf, nextCall, callOf}
 use Rattle.engine_state.specs.Inputs.{
-  isEngine, begunWith, beginAt, waitsFor, refusedBy, takenBy, endedBy, answerTo, thatCall, awaited, answered, answerAt, passedTo, changed, changeAt, gaveUpBy,
-  foundAt, listened, heardWaiting, signAt
+  isEngine,
+  begunWith,
+  beginAt,
+  waitsFor,
+  refusedBy,
+  takenBy,
+  endedBy,
+  answerTo,
+  thatCall,
+  awaited,
+  answered,
+  answerAt,
+  passedTo,
+  isLater,
+  changeAt,
+  gaveUpBy,
+  foundAt,
+  listened,
+  heardWaiting,
+  signAt,
 }
 use Rattle.home_laws.specs.Told.{Became, Tells, EVENT-TELLS}
 
@@ -119,13 +137,9 @@ passed-tells : (e : Engine) (x : State) (engines : ℕ) (s : Section) (change : 
 passed-tells e x engines s change holder.Nobody = refl
 passed-tells e x engines s change (holder.Engine f) = either e x (eqb (f .0) (e .0)) _ _ refl (begin-tells e x engines s change f)
 
-changed-tells : (e : Engine) (x : State) (engines : ℕ) (s : Section) (h : Holder) (change : ℕ) (w : Option Wait) → Tells e x (changed x e engines s h change w)
-changed-tells e x engines s h change None = refl
-changed-tells e x engines s h change (Some w) = either e x (sameSection (w .section) s && ltb (w .change) change) _ _ (passed-tells e x engines s change h) refl
-
 change-tells : (x : State) (e : Engine) (engines : ℕ) (s : Section) (h : Holder) (change : ℕ) → Tells e x (changeAt x e engines s h change)
 unfolding changeAt
-change-tells x e engines s h change = changed-tells e x engines s h change (waitOf x)
+change-tells x e engines s h change = either e x (isLater (waitOf x) s change) (passedTo x e engines s change h) (x, event.PassedOver) (passed-tells e x engines s change h) refl
 
 gave-up-tells : (e : Engine) (x : State) (s : Section) (o : Option ℕ) → Tells e x (gaveUpBy x (callOf act.GiveUp e s o))
 gave-up-tells e x s None = refl
