@@ -137,7 +137,7 @@ filed h e ours event.Closed y b = known-only h e known.Closed y b
 filed h e ours (event.Called c) y b = recorded h e (c .engine) (λ (x : State). made x c) y ours (b .0) (b .1)
 filed h e ours (event.Found c) y b = recorded h e (c .engine) (λ (x : State). made x c) y ours (b .0) (b .1)
 filed h e ours (event.Began f s c w n o) y b = recorded h e f (λ (x : State). begun x s c w n o) y ours (b .0) (b .1)
-filed h e ours (event.Heard f s) y b = recorded h e f (λ (x : State). heard x s) y ours (b .0) (b .1)
+filed h e ours (event.Heard f s) y b = recorded h e f (λ (x : State). heard x s) y ours (b .0) (b .2)
 filed h e ours (event.Noted to n by s) y b = nothing h e y b
 
 filed-at : (h : Home) (e : Engine) (f : State → State × Event) → Tells e (at h e) (f (at h e)) → Filed h (atOurs h e f)

@@ -2,8 +2,9 @@
 use mathlib.Core.Path.{_≡_, refl, subst}
 use mathlib.Core.Bool.{Bool, true, false, cond, _&&_}
 use mathlib.Core.Logic.{_⊎_, inl, inr}
-use Prim.Native.Nat.{ℕ}
-use lib.Dec.{eqb}
+use Prim.Native.Nat.{ℕ, _<_}
+use lib.Dec.{eqb, ltb}
+use Rattle.std.proofs.shelf.Tests.{ltb-true}
 use Rattle.std.specs.declared.option.Option.{Option}
 use Rattle.std.specs.declared.option.Option.the-variants.{Some, None}
 use Rattle.std.specs.declared.result.Result.{Result}
@@ -24,7 +25,8 @@ use Rattle.signs.specs.declared.Engine as signs
 use Rattle.signs.specs.declared.Refusal as signRefusal
 use Rattle.signs.specs.declared.Heard as sound
 use Rattle.signs.specs.declared.Heard.the-variants.{TellOn, Found, PassedOver}
-use Rattle.signs.specs.Signs.{beginOf, listenOf}
+use Rattle.signs.specs.declared.Refusal.the-variants.{Stale}
+use Rattle.signs.specs.Signs.{beginOf, listenOf, hearOf, findOf, waitsBy, showing, idle}
 use Rattle.engine_state.specs.declared.state.Event.{Event}
 use Rattle.engine_state.specs.declared.state.Event.the-variants as event
 use Rattle.engine_state.specs.declared.state.Known.{Known}
@@ -145,15 +147,40 @@ gave-up-tells : (e : Engine) (x : State) (s : Section) (o : Option ℕ) → Tell
 gave-up-tells e x s None = refl
 gave-up-tells e x s (Some n) = (refl, refl)
 
-listened-tells : (e : Engine) (x : State) (s : Section) (r : Result (signs.Engine × sound.Heard) signRefusal.Refusal) → Tells e x (listened x e s r)
-listened-tells e x s (Err r) = refl
-listened-tells e x s (Ok (y, TellOn sign)) = (refl, refl)
-listened-tells e x s (Ok (y, Found)) = gave-up-tells e x s (nextNumber (x .stored) (s .keeper))
-listened-tells e x s (Ok (y, PassedOver)) = refl
+-- a sign that is told on is above the one shown
+abbrev Rises : signs.Engine → Result (signs.Engine × sound.Heard) signRefusal.Refusal → Type 0
+Rises g (Err r) = Unit {0}
+Rises g (Ok (y, TellOn sign)) = g .shown < sign
+Rises g (Ok (y, Found)) = Unit {0}
+Rises g (Ok (y, PassedOver)) = Unit {0}
+
+found-rises : (g : signs.Engine) (w t : Bool) → Rises g (cond w (cond t (Ok (idle g, Found)) (Ok (g, PassedOver))) (Err Stale))
+found-rises g true true = tt
+found-rises g true false = tt
+found-rises g false t = tt
+
+pub listen-rises : (g : signs.Engine) (by count sign : ℕ) → Rises g (listenOf g by count sign)
+listen-rises g by count sign = by-test (ltb (g .shown) sign) refl
+  where
+    heard-rises : (w t : Bool) → ltb (g .shown) sign ≡ t → Rises g (cond w (cond t (Ok (showing g sign, TellOn sign)) (Ok (g, PassedOver))) (Err Stale))
+    heard-rises true true is = ltb-true (g .shown) sign is
+    heard-rises true false is = tt
+    heard-rises false t is = tt
+    by-test : (t : Bool) → ltb (g .shown) sign ≡ t → Rises g (cond t (hearOf g by count sign) (findOf g by count sign))
+    by-test true is = heard-rises (waitsBy g by count) (ltb (g .shown) sign) refl
+    by-test false is = found-rises g (waitsBy g by count) (eqb sign (g .own) && eqb (g .shown) (g .own))
+
+listened-tells :
+    (e : Engine) (x : State) (s : Section) (r : Result (signs.Engine × sound.Heard) signRefusal.Refusal) → Rises (x .signs) r → Tells e x (listened x e s r)
+listened-tells e x s (Err r) up = refl
+listened-tells e x s (Ok (y, TellOn sign)) up = (refl, up, refl)
+listened-tells e x s (Ok (y, Found)) up = gave-up-tells e x s (nextNumber (x .stored) (s .keeper))
+listened-tells e x s (Ok (y, PassedOver)) up = refl
 
 heard-tells : (e : Engine) (x : State) (count : ℕ) (by : Engine) (sign : ℕ) (w : Option Wait) → Tells e x (heardWaiting x e count by sign w)
 heard-tells e x count by sign None = refl
-heard-tells e x count by sign (Some w) = listened-tells e x (w .section) (listenOf (x .signs) (by .0) count sign)
+heard-tells e x count by sign (Some w) =
+    listened-tells e x (w .section) (listenOf (x .signs) (by .0) count sign) (listen-rises (x .signs) (by .0) count sign)
 
 sign-tells : (x : State) (e : Engine) (count : ℕ) (by : Engine) (sign : ℕ) → Tells e x (signAt x e count by sign)
 unfolding signAt

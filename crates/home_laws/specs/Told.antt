@@ -1,7 +1,7 @@
 -- An event tells what became of its engine. Assumes nothing.
 use mathlib.Core.Path.{_≡_}
 use mathlib.Core.Logic.{_⊎_}
-use Prim.Native.Nat.{ℕ}
+use Prim.Native.Nat.{ℕ, _<_}
 use Rattle.messages.specs.declared.yard.BoxNumber.{BoxNumber}
 use Rattle.messages.specs.declared.yard.Engine.{Engine}
 use Rattle.messages.specs.declared.yard.Section.{Section}
@@ -24,7 +24,7 @@ Became e x event.Closed y = y ≡ knowing x known.Closed
 Became e x (event.Called c) y = (c .engine ≡ e) × (y ≡ made x c)
 Became e x (event.Found c) y = (c .engine ≡ e) × (y ≡ made x c)
 Became e x (event.Began f s change whom count own) y = (f ≡ e) × (y ≡ begun x s change whom count own)
-Became e x (event.Heard f sign) y = (f ≡ e) × (y ≡ heard x sign)
+Became e x (event.Heard f sign) y = (f ≡ e) × (x .signs .shown < sign) × (y ≡ heard x sign)
 Became e x (event.Noted to count by sign) y = y ≡ x
 
 abbrev pub Tells : Engine → State → State × Event → Type 0
