@@ -5,6 +5,7 @@ use std::alloc::Refused;
 #[derive(Clone, Copy, PartialEq, Eq, Debug)]
 pub enum Fault {
     Memory,
+    Open,
     Append,
     Sync,
     Read,

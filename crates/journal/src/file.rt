@@ -15,8 +15,10 @@ pub trait File {
     // It holds these bytes, and so many of the first of them are synced.
     ghost holds: { Self → List ℕ → ℕ → Type 0 };
 
-    // Everything that was appended since it was opened was synced after.
+    // A sync succeeded after the last append or cut.
     ghost settled: { Self → Type 0 };
+
+    law all: { (f : Self) (xs : List ℕ) (n : ℕ) → settled f → holds f xs n → n ≡ length xs };
 
     fn append(&mut self, bytes: &[u8]) -> Result<(), Fault>
         ensures { λ r. ⌜ ((xs : List ℕ) (n : ℕ) → holds (now (self .entry)) xs n → Cases r (λ _. holds (now (self .exit)) (xs ++ now (bytes .entry)) n) (λ _. Remains (holds (now (self .exit))) (xs ++ now (bytes .entry)) n)) ⌝ };
