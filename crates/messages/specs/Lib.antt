@@ -1,3 +1,4 @@
 pub mod Range
 pub mod Table
 pub mod Reading
+pub mod Written

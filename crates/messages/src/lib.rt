@@ -2,6 +2,8 @@
 mod yard;
 mod message;
 mod decode;
+mod encode;
+mod encoded;
 
 pub use message::Act;
 pub use message::Call;
