@@ -1,5 +1,7 @@
 // From bytes to a message: the whole of them is one, or it is turned away.
 ghost use mathlib.Core.Path.{_≡_};
+ghost use Rattle.std.specs.Options.{okOr};
+ghost use Rattle.messages.specs.Promises.{Decoded};
 ghost use Rattle.messages.specs.Reading.{answerOf, callOf, changeOf, kindOf, messageOf, refusalOf, replyOf, signOf, waitsOf, whichOf};
 use crate::message::Act;
 use crate::message::Call;
@@ -9,7 +11,14 @@ use crate::message::Reply;
 use crate::yard::Yard;
 
 // The message that `bytes` are, all of them.
-pub fn decode(yard: Yard, bytes: &[u8]) -> Option<Message>
+pub fn decode(yard: Yard, bytes: &[u8]) -> Result<Message, Refusal>
+    ensures value { λ r. ⌜ r ≡ okOr (messageOf yard (now (bytes .entry))) Refusal.Malformed ⌝ }
+    ensures exact { λ r. ⌜ Decoded yard (now (bytes .entry)) r ⌝ }
+{
+    whole(yard, bytes).ok_or(Refusal::Malformed)
+}
+
+fn whole(yard: Yard, bytes: &[u8]) -> Option<Message>
     ensures { λ r. ⌜ r ≡ messageOf yard (now (bytes .entry)) ⌝ }
 {
     let [first, rest @ ..] = bytes else {

@@ -1,7 +1,7 @@
 use borrow.Author.Needs.{needs}
 use lib.Dec.{lit≤}
 use Rattle.messages.proofs.Dispatch.{kind-at}
-use Rattle.messages.proofs.decode.decode.Needs as need
+use Rattle.messages.proofs.decoder.whole.Needs as need
 
 pub returns-in-4 : need.returns-in-4
 returns-in-4 c = kind-at (c .args .yard) (c .args .bytes .now) 4 _ (lit≤ tt) (c .in-4 .is) (c .answer .ensures)

@@ -2,7 +2,7 @@ use borrow.Author.Needs.{needs}
 use mathlib.Core.Path.{_∙_, sym, ap}
 use Rattle.messages.specs.Table.{bytesOf}
 use Rattle.messages.proofs.Writing.{answer-bytes, on}
-use Rattle.messages.proofs.encode.encode.Needs as need
+use Rattle.messages.proofs.encoder.encode.Needs as need
 
 pub returns-in-Sign : need.returns-in-Sign
 returns-in-Sign c =
