@@ -37,7 +37,7 @@ section-back y s h = ap (λ (t : Bool). unless t (Some s)) (and-from _ _ (lt-ltb
 pub holder-back : (y : Yard) (h : Holder) → HolderIn y h → holderOf y (holderByte h) ≡ Some h
 holder-back y holder.Nobody h = refl
 holder-back y (holder.Engine e) h =
-  ap (λ (t : Bool). cond t (Some holder.Nobody) (andThen (engineOf y (e .0)) (λ x. Some (holder.Engine x)))) (ne-eqb (e .0) 255 (omega arith))
+    ap (λ (t : Bool). cond t (Some holder.Nobody) (andThen (engineOf y (e .0)) (λ x. Some (holder.Engine x)))) (ne-eqb (e .0) 255 (omega arith))
     ∙ ap (λ (o : Option Engine). andThen o (λ x. Some (holder.Engine x))) (engine-back y e h)
 
 pub reply-back : (r : Reply) → ReplyIn r → replyOf (replyByte r) (replyEnd r) ≡ Some r
@@ -63,7 +63,7 @@ reads-back y (message.Call c) h = act-kind y (c .act) (c .engine .0 ∷ two (c .
 reads-back y (message.Answer e n reply.Done h c) i = rw (engine-back y e (i .0), holder-back y h (i .3), four-back n (i .1), four-back c (i .4))
 reads-back y (message.Answer e n reply.Waits h c) i = rw (engine-back y e (i .0), holder-back y h (i .3), four-back n (i .1), four-back c (i .4))
 reads-back y (message.Answer e n (reply.Refused q) h c) i =
-  rw (engine-back y e (i .0), reply-back (reply.Refused q) (i .2), holder-back y h (i .3), four-back n (i .1), four-back c (i .4))
+    rw (engine-back y e (i .0), reply-back (reply.Refused q) (i .2), holder-back y h (i .3), four-back n (i .1), four-back c (i .4))
 reads-back y (message.Change s h c) i = rw (section-back y s (i .0), holder-back y h (i .1), four-back c (i .2))
 reads-back y (message.WhichChange e s) i = rw (engine-back y e (i .0), section-back y s (i .1))
 reads-back y (message.Sign t n b s) i = rw (engine-back y t (i .0), engine-back y b (i .2), four-back n (i .1), eight-back s (i .3))

@@ -90,19 +90,19 @@ call-all y c h = (act-byte (c .act), (engine-byte y (c .engine) (h .0), section-
 pub message-all : (y : Yard) (m : Message) → MessageIn y m → AllBytes (bytesOf m)
 message-all y (message.Call c) i = call-all y c i
 message-all y (message.Answer e n r h c) i =
-  (lit< tt, (engine-byte y e (i .0), four-all n (replyByte r ∷ holderByte h ∷ four c ++ replyEnd r) (reply-byte r, (holder-byte y h (i .3), four-all c (replyEnd r) (reply-all r)))))
+    (lit< tt, (engine-byte y e (i .0), four-all n (replyByte r ∷ holderByte h ∷ four c ++ replyEnd r) (reply-byte r, (holder-byte y h (i .3), four-all c (replyEnd r) (reply-all r)))))
 message-all y (message.Change s h c) i = (lit< tt, section-all y s (holderByte h ∷ four c) (i .0) (holder-byte y h (i .1), four-all c [] tt))
 message-all y (message.WhichChange e s) i = (lit< tt, (engine-byte y e (i .0), section-all y s [] (i .1) tt))
 message-all y (message.Sign t n b s) i = (lit< tt, (engine-byte y t (i .0), four-all n (b .0 ∷ eight s) (engine-byte y b (i .2), eight-all s [] tt)))
 message-all y (message.Waits e s n c) i = (lit< tt, (engine-byte y e (i .0), section-all y s (four n ++ four c) (i .1) (four-all n (four c) (four-all c [] tt))))
 
 refused-by : (y : Yard) (m : Message) (front rest : List ℕ) → Bytes front → front ++ rest ≡ bytesOf m → (rest ≡ [] → ⊥)
-  → (o : Option Message) → messageOf y front ≡ o → o ≡ None
+    → (o : Option Message) → messageOf y front ≡ o → o ≡ None
 refused-by y m front rest b is more None p = refl
 refused-by y m front rest b is more (Some n) p =
-  absurd (more (none-begins-another n m rest (ap (λ (l : List ℕ). l ++ rest) (one-form y front n b p .1) ∙ is)))
+    absurd (more (none-begins-another n m rest (ap (λ (l : List ℕ). l ++ rest) (one-form y front n b p .1) ∙ is)))
 
 pub cut-refused : CUT-REFUSED
 cut-refused y m front rest i is more =
-  let P : List ℕ → Type 0 = AllBytes in
-  refused-by y m front rest (bytes-from front (all-front front rest (subst P (sym is) (message-all y m i)))) is more (messageOf y front) refl
+    let P : List ℕ → Type 0 = AllBytes in
+    refused-by y m front rest (bytes-from front (all-front front rest (subst P (sym is) (message-all y m i)))) is more (messageOf y front) refl

@@ -19,9 +19,9 @@ use Rattle.messages.proofs.Forms.{clash, one-form}
 
 decided-by : (y : Yard) (xs : List ℕ) → Bytes xs → (o : Option Message) → messageOf y xs ≡ o → Decoded y xs (okOr o refusal.Malformed)
 decided-by y xs b None p =
-  (refl, λ m i is. clash m (sym p ∙ (ap (λ (l : List ℕ). messageOf y l) (sym is) ∙ reads-back y m i)))
+    (refl, λ m i is. clash m (sym p ∙ (ap (λ (l : List ℕ). messageOf y l) (sym is) ∙ reads-back y m i)))
 decided-by y xs b (Some m) p = one-form y xs m b p
 
 pub decided : (y : Yard) (xs : List ℕ) (r : Result Message Refusal) → Bytes xs → r ≡ okOr (messageOf y xs) refusal.Malformed → Decoded y xs r
 decided y xs r b is =
-  let P : Result Message Refusal → Type 0 = Decoded y xs in subst P (sym is) (decided-by y xs b (messageOf y xs) refl)
+    let P : Result Message Refusal → Type 0 = Decoded y xs in subst P (sym is) (decided-by y xs b (messageOf y xs) refl)

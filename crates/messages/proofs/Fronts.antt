@@ -4,8 +4,8 @@ use mathlib.Core.Path.{_≡_, refl, sym, _∙_, ap, subst}
 use Prim.Native.Nat.{ℕ, zero, suc, _+_, _-_, _<_, _≤_}
 use native.Mathlib.Omega.{arith}
 use lib.Dec.{lit<}
-use lib.ListN.{length, getD, drop, take, length-append, take-append-drop}
-use lib.Seq.{length-take-le, take-append-le, take-length}
+use lib.ListN.{length, getD, drop, take, length-append, length-drop, take-append-drop}
+use lib.Seq.{drop-drop, length-take-le, take-all, take-append-le, take-length}
 use Rattle.std.proofs.shelf.Fronts.{front-rest}
 use Rattle.std.specs.Options.{Cases}
 use Rattle.std.specs.declared.option.Option.{Option}
@@ -55,10 +55,10 @@ unsized (k ∷ xs) long is h = let P : Option ℕ → Type 0 = λ o. Cases o ⊥
 
 pub long-not-short : (r : Record) (rest : List ℕ) → Short (recordBytes r ++ rest) → ⊥
 long-not-short r rest h =
-  let l = length-append (recordBytes r) rest in
-  let p = some-bytes r in
-  let q = short-lt (recordBytes r ++ rest) (length (recordBytes r)) (omega arith) (size-is r rest) h in
-  omega arith
+    let l = length-append (recordBytes r) rest in
+    let p = some-bytes r in
+    let q = short-lt (recordBytes r ++ rest) (length (recordBytes r)) (omega arith) (size-is r rest) h in
+    omega arith
 
 getD-front : (xs ys : List ℕ) → 1 ≤ length xs → getD (xs ++ ys) 0 0 ≡ getD xs 0 0
 getD-front [] ys h = absurd (omega arith)
@@ -75,26 +75,27 @@ more-than (x ∷ xs) h = omega arith
 pub cut-is-short : CUT-IS-SHORT
 cut-is-short r [] rest is more = tt
 cut-is-short r (k ∷ front) rest is more =
-  let s = size-is r [] in
-  let e : sizeOf k ≡ Some (length (recordBytes r)) = ap (λ (l : List ℕ). sizeOf (getD l 0 0)) (is ∙ sym (append-nil (recordBytes r))) ∙ s in
-  let l = length-append (k ∷ front) rest in
-  let w = ap length is in
-  let m = more-than rest more in
-  lt-short (k ∷ front) (length (recordBytes r)) (omega arith) e (omega arith)
+    let s = size-is r [] in
+    let e : sizeOf k ≡ Some (length (recordBytes r)) = ap (λ (l : List ℕ). sizeOf (getD l 0 0)) (is ∙ sym (append-nil (recordBytes r))) ∙ s in
+    let l = length-append (k ∷ front) rest in
+    let w = ap length is in
+    let m = more-than rest more in
+    lt-short (k ∷ front) (length (recordBytes r)) (omega arith) e (omega arith)
 
 -- equal lists with fronts of one length have equal fronts and equal rests
 pub apart : (a b c d : List ℕ) → length a ≡ length b → a ++ c ≡ b ++ d → (a ≡ b) × (c ≡ d)
-apart a b c d l is =
-  (sym (take-append-le (length a) a c (omega arith) ∙ take-length a)
-    ∙ (ap (take (length a)) is ∙ (ap (λ (n : ℕ). take n (b ++ d)) l ∙ (take-append-le (length b) b d (omega arith) ∙ take-length b))),
-   sym (front-rest (a ++ c) a c refl) ∙ (ap (drop (length a)) is ∙ (ap (λ (n : ℕ). drop n (b ++ d)) l ∙ front-rest (b ++ d) b d refl)))
+apart a b c d l is = (
+  sym (take-append-le (length a) a c (omega arith) ∙ take-length a)
+      ∙ (ap (take (length a)) is ∙ (ap (λ (n : ℕ). take n (b ++ d)) l ∙ (take-append-le (length b) b d (omega arith) ∙ take-length b))),
+  sym (front-rest (a ++ c) a c refl) ∙ (ap (drop (length a)) is ∙ (ap (λ (n : ℕ). drop n (b ++ d)) l ∙ front-rest (b ++ d) b d refl)),
+)
 
 pub same-first : (y : Yard) (r q : Record) (c d : List ℕ) → RecordIn y r → RecordIn y q → recordBytes r ++ c ≡ recordBytes q ++ d → (r ≡ q) × (c ≡ d)
 same-first y r q c d i j is =
-  let l : length (recordBytes r) ≡ length (recordBytes q)
-      = some _ _ (sym (size-is r c) ∙ (ap (λ (l : List ℕ). sizeOf (getD l 0 0)) is ∙ size-is q d)) in
-  let e = apart (recordBytes r) (recordBytes q) c d l is in
-  (some r q (sym (record-back y r i) ∙ (ap (recordOf y) (e .0) ∙ record-back y q j)), e .1)
+    let l : length (recordBytes r) ≡ length (recordBytes q)
+    = some _ _ (sym (size-is r c) ∙ (ap (λ (l : List ℕ). sizeOf (getD l 0 0)) is ∙ size-is q d)) in
+    let e = apart (recordBytes r) (recordBytes q) c d l is in
+    (some r q (sym (record-back y r i) ∙ (ap (recordOf y) (e .0) ∙ record-back y q j)), e .1)
 
 joined : (a b t : List ℕ) → (a ++ b) ++ t ≡ a ++ (b ++ t)
 joined [] b t = refl
@@ -104,13 +105,13 @@ joined (x ∷ a) b t = ap (λ (l : List ℕ). x ∷ l) (joined a b t)
 one-by-one : (y : Yard) (rs qs : List Record) (t u : List ℕ) → AllIn y rs → AllIn y qs → written rs ++ t ≡ written qs ++ u → Short t → Short u → (rs ≡ qs) × (t ≡ u)
 one-by-one y [] [] t u i j is s v = (refl, is)
 one-by-one y [] (q ∷ qs) t u i j is s v =
-  let P : List ℕ → Type 0 = Short in absurd (long-not-short q (written qs ++ u) (subst P (is ∙ joined (recordBytes q) (written qs) u) s))
+    let P : List ℕ → Type 0 = Short in absurd (long-not-short q (written qs ++ u) (subst P (is ∙ joined (recordBytes q) (written qs) u) s))
 one-by-one y (r ∷ rs) [] t u i j is s v =
-  let P : List ℕ → Type 0 = Short in absurd (long-not-short r (written rs ++ t) (subst P (sym is ∙ joined (recordBytes r) (written rs) t) v))
+    let P : List ℕ → Type 0 = Short in absurd (long-not-short r (written rs ++ t) (subst P (sym is ∙ joined (recordBytes r) (written rs) t) v))
 one-by-one y (r ∷ rs) (q ∷ qs) t u i j is s v =
-  let e = same-first y r q (written rs ++ t) (written qs ++ u) (i .0) (j .0) (sym (joined (recordBytes r) (written rs) t) ∙ (is ∙ joined (recordBytes q) (written qs) u)) in
-  let f = one-by-one y rs qs t u (i .1) (j .1) (e .1) s v in
-  (let a = e .0 in let b = f .0 in cc, f .1)
+    let e = same-first y r q (written rs ++ t) (written qs ++ u) (i .0) (j .0) (sym (joined (recordBytes r) (written rs) t) ∙ (is ∙ joined (recordBytes q) (written qs) u)) in
+    let f = one-by-one y rs qs t u (i .1) (j .1) (e .1) s v in
+    (let a = e .0 in let b = f .0 in cc, f .1)
 
 pub one-list : ONE-LIST
 one-list y xs rs qs t u h k = one-by-one y rs qs t u (h .0) (k .0) (h .1 ∙ sym (k .1)) (h .2) (k .2)
@@ -120,10 +121,10 @@ pub none-there : (y : Yard) (rs qs : List Record) (t u : List ℕ) → AllIn y r
 none-there y [] [] t u i j is d s = let P : List ℕ → Type 0 = Short in d .0 (subst P (sym is) s)
 none-there y [] (q ∷ qs) t u i j is d s = d .1 q (written qs ++ u) (j .0) (sym (is ∙ joined (recordBytes q) (written qs) u))
 none-there y (r ∷ rs) [] t u i j is d s =
-  let P : List ℕ → Type 0 = Short in long-not-short r (written rs ++ t) (subst P (sym is ∙ joined (recordBytes r) (written rs) t) s)
+    let P : List ℕ → Type 0 = Short in long-not-short r (written rs ++ t) (subst P (sym is ∙ joined (recordBytes r) (written rs) t) s)
 none-there y (r ∷ rs) (q ∷ qs) t u i j is d s =
-  let e = same-first y r q (written rs ++ t) (written qs ++ u) (i .0) (j .0) (sym (joined (recordBytes r) (written rs) t) ∙ (is ∙ joined (recordBytes q) (written qs) u)) in
-  none-there y rs qs t u (i .1) (j .1) (e .1) d s
+    let e = same-first y r q (written rs ++ t) (written qs ++ u) (i .0) (j .0) (sym (joined (recordBytes r) (written rs) t) ∙ (is ∙ joined (recordBytes q) (written qs) u)) in
+    none-there y rs qs t u (i .1) (j .1) (e .1) d s
 
 -- a first part of bytes is bytes
 below-at : (xs : List ℕ) (n i : ℕ) → Bytes xs → getD (take n xs) i 0 < 256
@@ -138,19 +139,67 @@ first-empty y [] h = tt
 first-empty y (x ∷ xs) h = absurd (omega arith)
 
 pub first-unknown : (y : Yard) (xs : List ℕ) → 1 ≤ length xs → sizeOf (getD xs 0 0) ≡ None → FirstIs y xs first.Damaged
-first-unknown y xs long is = (unsized xs long is, λ r rest i e.
-  clash (length (recordBytes r)) (sym is ∙ (ap (λ (l : List ℕ). sizeOf (getD l 0 0)) (sym e) ∙ size-is r rest)))
+first-unknown y xs long is = (
+  unsized xs long is,
+  λ r rest i e.
+      clash (length (recordBytes r)) (sym is ∙ (ap (λ (l : List ℕ). sizeOf (getD l 0 0)) (sym e) ∙ size-is r rest)),
+)
 
-pub first-whole : (y : Yard) (xs : List ℕ) (n : ℕ) (r : Record) → Bytes xs → 1 ≤ length xs → sizeOf (getD xs 0 0) ≡ Some n → n ≤ length xs
-  → recordOf y (take n xs) ≡ Some r → FirstIs y xs (first.Whole r n)
-first-whole y xs n r b long is fits found =
-  let f = record-form y (take n xs) r (λ i. below-at xs n i b) found in
-  (f .0, ap (λ (l : List ℕ). l ++ drop n xs) (f .1) ∙ take-append-drop n xs, sym (ap length (f .1) ∙ length-take-le n xs fits))
+known : (xs : List ℕ) (n : ℕ) → sizeOf (getD xs 0 0) ≡ Some n → 1 ≤ length xs
+known [] n is = absurd (clash n is)
+known (x ∷ xs) n is = omega arith
 
-pub first-wrong : (y : Yard) (xs : List ℕ) (n : ℕ) → 1 ≤ length xs → sizeOf (getD xs 0 0) ≡ Some n → n ≤ length xs → recordOf y (take n xs) ≡ None
-  → FirstIs y xs first.Damaged
-first-wrong y xs n long is fits none =
-  ((λ s. let q = short-lt xs n long is s in omega arith), λ r rest i e.
-    let l : length (recordBytes r) ≡ n = some _ _ (sym (size-is r rest) ∙ (ap (λ (l : List ℕ). sizeOf (getD l 0 0)) e ∙ is)) in
-    let t : take n xs ≡ recordBytes r = sym (ap (λ (l : List ℕ). take n l) e) ∙ (ap (λ (m : ℕ). take m (recordBytes r ++ rest)) (sym l) ∙ (take-append-le (length (recordBytes r)) (recordBytes r) rest (omega arith) ∙ take-length (recordBytes r))) in
-    clash r (sym none ∙ (ap (recordOf y) t ∙ record-back y r i)))
+pub first-whole : (y : Yard) (xs : List ℕ) (n : ℕ) (r : Record) → Bytes xs → sizeOf (getD xs 0 0) ≡ Some n → n ≤ length xs
+    → recordOf y (take n xs) ≡ Some r → FirstIs y xs (first.Whole r n)
+first-whole y xs n r b is fits found =
+    let f = record-form y (take n xs) r (λ i. below-at xs n i b) found in
+    (f .0, ap (λ (l : List ℕ). l ++ drop n xs) (f .1) ∙ take-append-drop n xs, sym (ap length (f .1) ∙ length-take-le n xs fits))
+
+pub first-wrong : (y : Yard) (xs : List ℕ) (n : ℕ) → sizeOf (getD xs 0 0) ≡ Some n → n ≤ length xs → recordOf y (take n xs) ≡ None
+    → FirstIs y xs first.Damaged
+first-wrong y xs n is fits none = (
+  (λ s. let q = short-lt xs n (known xs n is) is s in omega arith),
+  λ r rest i e.
+      let l : length (recordBytes r) ≡ n = some _ _ (sym (size-is r rest) ∙ (ap (λ (l : List ℕ). sizeOf (getD l 0 0)) e ∙ is)) in
+      let t : take n xs ≡ recordBytes r = sym (ap (λ (l : List ℕ). take n l) e) ∙ (ap (λ (m : ℕ). take m (recordBytes r ++ rest)) (sym l) ∙ (take-append-le (length (recordBytes r)) (recordBytes r) rest (omega arith) ∙ take-length (recordBytes r))) in
+      clash r (sym none ∙ (ap (recordOf y) t ∙ record-back y r i)),
+)
+
+written-push : (rs : List Record) (r : Record) → written (rs ++ (r ∷ [])) ≡ written rs ++ recordBytes r
+written-push [] r = append-nil (recordBytes r)
+written-push (q ∷ rs) r = ap (λ (l : List ℕ). recordBytes q ++ l) (written-push rs r) ∙ sym (joined (recordBytes q) (written rs) (recordBytes r))
+
+all-push : (y : Yard) (rs : List Record) (r : Record) → AllIn y rs → RecordIn y r → AllIn y (rs ++ (r ∷ []))
+all-push y [] r h i = (i, tt)
+all-push y (q ∷ rs) r h i = (h .0, all-push y rs r (h .1) i)
+
+-- whole records so far, in a file's first bytes
+abbrev pub SoFar : Yard → List ℕ → List Record → ℕ → Type 0
+SoFar y xs rs at = AllIn y rs × (written rs ++ drop at xs ≡ xs) × (at ≡ length (written rs)) × (at ≤ length xs)
+
+pub so-far-none : (y : Yard) (xs : List ℕ) → SoFar y xs [] 0
+so-far-none y xs = (tt, refl, refl, omega arith)
+
+pub so-far-more : (y : Yard) (xs : List ℕ) (rs : List Record) (at n : ℕ) (r : Record) → SoFar y xs rs at → FirstIs y (drop at xs) (first.Whole r n)
+    → SoFar y xs (rs ++ (r ∷ [])) (at + n)
+so-far-more y xs rs at n r h f =
+    let w = written-push rs r in
+    let l = ap length w ∙ length-append (written rs) (recordBytes r) in
+    let d = drop-drop n at xs in
+    let q : (written rs ++ recordBytes r) ++ drop (at + n) xs ≡ xs
+    = joined (written rs) (recordBytes r) (drop (at + n) xs) ∙ (ap (λ (l : List ℕ). written rs ++ (recordBytes r ++ l)) (sym d) ∙ (ap (λ (l : List ℕ). written rs ++ l) (f .1) ∙ h .1)) in
+    let m = ap length q in
+    let m2 = length-append (written rs ++ recordBytes r) (drop (at + n) xs) in
+    let m3 = length-append (written rs) (recordBytes r) in
+    (all-push y rs r (h .0) (f .0), ap (λ (l : List ℕ). l ++ drop (at + n) xs) w ∙ q, omega (arith, l, h .2, f .2), omega (arith, l, m, m2, m3, h .2, f .2))
+
+-- a slice from `at` on is what is left there
+pub rest-is : (y : Yard) (xs : List ℕ) (at : ℕ) (f : First) → FirstIs y (take (length xs - at) (drop at xs)) f → FirstIs y (drop at xs) f
+rest-is y xs at f h =
+    let P : List ℕ → Type 0 = λ l. FirstIs y l f in subst P (take-all (length xs - at) (drop at xs) (omega (arith, length-drop at xs))) h
+
+pub so-far-damaged : (y : Yard) (xs : List ℕ) (rs : List Record) (at : ℕ) → SoFar y xs rs at → FirstIs y (drop at xs) first.Damaged
+    → ((qs : List Record) (t : List ℕ) → Holds y xs qs t → ⊥)
+    × ((qs : List Record) × (AllIn y qs × (written qs ++ drop at xs ≡ xs) × (at ≡ length (written qs)) × FirstIs y (drop at xs) first.Damaged))
+so-far-damaged y xs rs at h d =
+    ((λ qs t k. none-there y rs qs (drop at xs) t (h .0) (k .0) (h .1 ∙ sym (k .1)) d (k .2)), (rs, (h .0, h .1, h .2, d)))

@@ -17,7 +17,7 @@ use Rattle.messages.specs.Table.{actByte, bytesOf, four, two}
 -- by the first byte, and of an answer by the seventh
 abbrev size : List ℕ → ℕ
 size xs = cond (eqb (getD xs 0 0) 4) (cond (eqb (getD xs 6 0) 0) 13 12)
-  (cond (eqb (getD xs 0 0) 5) 8 (cond (eqb (getD xs 0 0) 6) 4 (cond (eqb (getD xs 0 0) 7) 15 (cond (eqb (getD xs 0 0) 12) 12 8))))
+    (cond (eqb (getD xs 0 0) 5) 8 (cond (eqb (getD xs 0 0) 6) 4 (cond (eqb (getD xs 0 0) 7) 15 (cond (eqb (getD xs 0 0) 12) 12 8))))
 
 size-call : (a : Act) (xs : List ℕ) → size (actByte a ∷ xs) ≡ 8
 size-call act.Take xs = refl
@@ -47,4 +47,4 @@ append-nil (x ∷ xs) = ap (λ (l : List ℕ). x ∷ l) (append-nil xs)
 
 pub none-begins-another : NONE-BEGINS-ANOTHER
 none-begins-another m n more is =
-  ends (bytesOf m) (bytesOf n) more is (sym (size-is m more) ∙ (ap size (is ∙ sym (append-nil (bytesOf n))) ∙ size-is n []))
+    ends (bytesOf m) (bytesOf n) more is (sym (size-is m more) ∙ (ap size (is ∙ sym (append-nil (bytesOf n))) ∙ size-is n []))

@@ -22,6 +22,6 @@ then a xs ys p q = q ∙ (ap (λ (l : List ℕ). l ++ ys) p ∙ append-assoc a x
 
 -- an answer, by the two bytes that are computed for it
 pub answer-bytes : {xs : List ℕ} (e : Engine) (n : ℕ) (r : Reply) (h : Holder) (c a b : ℕ) → a ≡ replyByte r → b ≡ holderByte h
-  → xs ≡ 4 ∷ e .0 ∷ four n ++ (a ∷ b ∷ four c ++ replyEnd r) → xs ≡ bytesOf (message.Answer e n r h c)
+    → xs ≡ 4 ∷ e .0 ∷ four n ++ (a ∷ b ∷ four c ++ replyEnd r) → xs ≡ bytesOf (message.Answer e n r h c)
 answer-bytes e n r h c a b p q is =
-  is ∙ (ap (λ (x : ℕ). 4 ∷ e .0 ∷ four n ++ (x ∷ b ∷ four c ++ replyEnd r)) p ∙ ap (λ (x : ℕ). 4 ∷ e .0 ∷ four n ++ (replyByte r ∷ x ∷ four c ++ replyEnd r)) q)
+    is ∙ (ap (λ (x : ℕ). 4 ∷ e .0 ∷ four n ++ (x ∷ b ∷ four c ++ replyEnd r)) p ∙ ap (λ (x : ℕ). 4 ∷ e .0 ∷ four n ++ (replyByte r ∷ x ∷ four c ++ replyEnd r)) q)

@@ -7,6 +7,9 @@ use lib.Dec.{eqb, leb}
 use lib.ListN.{length, getD, drop, take}
 use Rattle.std.specs.declared.option.Option.{Option}
 use Rattle.std.specs.declared.option.Option.the-variants.{Some, None}
+use Rattle.std.specs.declared.result.Result.{Result}
+use Rattle.std.specs.declared.result.Result.the-variants.{Ok, Err}
+use Rattle.std.specs.Of.Vec.{vec-items}
 use Rattle.std.specs.Options.{Cases}
 use Rattle.messages.specs.declared.yard.Yard.{Yard}
 use Rattle.messages.specs.declared.message.Act.{Act}
@@ -16,6 +19,9 @@ use Rattle.messages.specs.declared.message.Record.{Record}
 use Rattle.messages.specs.declared.message.Record.the-variants as journal
 use Rattle.messages.specs.declared.records.First.{First}
 use Rattle.messages.specs.declared.records.First.the-variants as first
+use Rattle.messages.specs.declared.records.Replay.{Replay}
+use Rattle.messages.specs.declared.records.Unread.{Unread}
+use Rattle.messages.specs.declared.records.Unread.the-variants as unread
 use Rattle.messages.specs.Range.{RecordIn}
 use Rattle.messages.specs.Reading.{andThen, callOf, eightAt, engineOf, fourAt, sectionOf, unless}
 use Rattle.messages.specs.Table.{recordBytes}
@@ -29,7 +35,7 @@ wholeCall y xs = unless (leb 1 (length xs)) (andThen (actOf (getD xs 0 0)) (λ a
 
 abbrev pub beginningOf : Yard → List ℕ → Option Record
 beginningOf y xs = unless (eqb (length xs) 20) (andThen (engineOf y (getD xs 0 0)) (λ e. andThen (sectionOf y (getD xs 1 0) (getD xs 2 0)) (λ s.
-  andThen (engineOf y (getD xs 7 0)) (λ h. Some (journal.Beginning e s (fourAt xs 3) h (fourAt xs 8) (eightAt xs 12))))))
+    andThen (engineOf y (getD xs 7 0)) (λ h. Some (journal.Beginning e s (fourAt xs 3) h (fourAt xs 8) (eightAt xs 12))))))
 
 abbrev pub heardOf : Yard → List ℕ → Option Record
 heardOf y xs = unless (eqb (length xs) 9) (andThen (engineOf y (getD xs 0 0)) (λ e. Some (journal.Heard e (eightAt xs 1))))
@@ -51,7 +57,7 @@ recordOf y xs = unless (leb 1 (length xs)) (recordKind y (getD xs 0 0) (drop 1 x
 -- how long a record is, by its first byte
 abbrev pub sizeOf : ℕ → Option ℕ
 sizeOf k = cond (eqb k 8) (Some 21) (cond (eqb k 9) (Some 10) (cond (eqb k 10) (Some 9)
-  (cond (eqb k 1) (Some 8) (cond (eqb k 2) (Some 8) (cond (eqb k 3) (Some 8) None)))))
+    (cond (eqb k 1) (Some 8) (cond (eqb k 2) (Some 8) (cond (eqb k 3) (Some 8) None)))))
 
 -- nothing, or the first byte of a record and less than the whole of it
 abbrev pub Short : List ℕ → Type 0
@@ -84,3 +90,10 @@ CUT-IS-SHORT = (r : Record) (front rest : List ℕ) → front ++ rest ≡ record
 -- a file has one list of records, and one beginning after it
 abbrev pub ONE-LIST : Type 0
 ONE-LIST = (y : Yard) (xs : List ℕ) (rs qs : List Record) (t u : List ℕ) → Holds y xs rs t → Holds y xs qs u → (rs ≡ qs) × (t ≡ u)
+
+-- what a file's bytes are read as: its records and their length, or where it is damaged
+abbrev pub ReadIs : Yard → List ℕ → Result Replay Unread → Type 0
+ReadIs y xs (Ok p) = Holds y xs (vec-items (p .records)) (drop (p .length) xs) × (p .length ≡ length (written (vec-items (p .records))))
+ReadIs y xs (Err (unread.Damaged at)) = ((rs : List Record) (t : List ℕ) → Holds y xs rs t → ⊥)
+    × ((rs : List Record) × (AllIn y rs × (written rs ++ drop at xs ≡ xs) × (at ≡ length (written rs)) × FirstIs y (drop at xs) first.Damaged))
+ReadIs y xs (Err unread.NoMemory) = Unit {0}

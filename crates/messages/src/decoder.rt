@@ -46,13 +46,32 @@ pub(crate) fn call(yard: Yard, act: Act, rest: &[u8]) -> Option<Call>
     let engine = yard.engine(*engine)?;
     let section = yard.section(*keeper, *place)?;
     let number = u32::from_be_bytes([*n3, *n2, *n1, *n0]);
-    Some(Call { act, engine, section, number })
+    Some(Call {
+        act,
+        engine,
+        section,
+        number,
+    })
 }
 
 fn answer(yard: Yard, rest: &[u8]) -> Option<Message>
     ensures { λ r. ⌜ r ≡ answerOf yard (now (rest .entry)) ⌝ }
 {
-    let [engine, n3, n2, n1, n0, byte, holder, c3, c2, c1, c0, end @ ..] = rest else {
+    let [
+        engine,
+        n3,
+        n2,
+        n1,
+        n0,
+        byte,
+        holder,
+        c3,
+        c2,
+        c1,
+        c0,
+        end @ ..,
+    ] = rest
+    else {
         return None;
     };
     let engine = yard.engine(*engine)?;
@@ -60,7 +79,13 @@ fn answer(yard: Yard, rest: &[u8]) -> Option<Message>
     let holder = yard.holder(*holder)?;
     let call = u32::from_be_bytes([*n3, *n2, *n1, *n0]);
     let change = u32::from_be_bytes([*c3, *c2, *c1, *c0]);
-    Some(Message::Answer { engine, call, reply, holder, change })
+    Some(Message::Answer {
+        engine,
+        call,
+        reply,
+        holder,
+        change,
+    })
 }
 
 // An answer's byte, and what follows its change number: the refusal's number, and only that.
@@ -95,7 +120,11 @@ fn change(yard: Yard, rest: &[u8]) -> Option<Message>
     let section = yard.section(*keeper, *place)?;
     let holder = yard.holder(*holder)?;
     let change = u32::from_be_bytes([*c3, *c2, *c1, *c0]);
-    Some(Message::Change { section, holder, change })
+    Some(Message::Change {
+        section,
+        holder,
+        change,
+    })
 }
 
 fn which_change(yard: Yard, rest: &[u8]) -> Option<Message>
@@ -119,7 +148,12 @@ fn sign(yard: Yard, rest: &[u8]) -> Option<Message>
     let by = yard.engine(*by)?;
     let count = u32::from_be_bytes([*n3, *n2, *n1, *n0]);
     let sign = u64::from_be_bytes([*s7, *s6, *s5, *s4, *s3, *s2, *s1, *s0]);
-    Some(Message::Sign { to, count, by, sign })
+    Some(Message::Sign {
+        to,
+        count,
+        by,
+        sign,
+    })
 }
 
 fn waits(yard: Yard, rest: &[u8]) -> Option<Message>
@@ -132,5 +166,10 @@ fn waits(yard: Yard, rest: &[u8]) -> Option<Message>
     let section = yard.section(*keeper, *place)?;
     let count = u32::from_be_bytes([*n3, *n2, *n1, *n0]);
     let change = u32::from_be_bytes([*c3, *c2, *c1, *c0]);
-    Some(Message::Waits { engine, section, count, change })
+    Some(Message::Waits {
+        engine,
+        section,
+        count,
+        change,
+    })
 }

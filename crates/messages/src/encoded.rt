@@ -1,5 +1,6 @@
 // The bytes of one message or record, in place: no memory is asked for.
 ghost use Prim.Native.Nat.{_≤_};
+
 pub mod writing;
 
 // The longest is a beginning to wait.

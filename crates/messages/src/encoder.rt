@@ -19,14 +19,46 @@ pub fn encode(message: Message) -> Encoded
     let out = Encoded::empty();
     match message {
         Message::Call(call) => out.call(call),
-        Message::Answer { engine, call, reply, holder, change } => {
-            let out = out.byte(4).byte(engine.0).four(call).byte(reply.byte()).byte(holder.byte()).four(change);
+        Message::Answer {
+            engine,
+            call,
+            reply,
+            holder,
+            change,
+        } => {
+            let out = out.byte(4)
+                .byte(engine.0)
+                .four(call)
+                .byte(reply.byte())
+                .byte(holder.byte())
+                .four(change);
             reply_end(out, reply)
         }
-        Message::Change { section, holder, change } => out.byte(5).section(section).byte(holder.byte()).four(change),
+        Message::Change {
+            section,
+            holder,
+            change,
+        } => out.byte(5)
+            .section(section)
+            .byte(holder.byte())
+            .four(change),
         Message::WhichChange { engine, section } => out.byte(6).byte(engine.0).section(section),
-        Message::Sign { to, count, by, sign } => out.byte(7).byte(to.0).four(count).byte(by.0).eight(sign),
-        Message::Waits { engine, section, count, change } => out.byte(12).byte(engine.0).section(section).four(count).four(change),
+        Message::Sign {
+            to,
+            count,
+            by,
+            sign,
+        } => out.byte(7).byte(to.0).four(count).byte(by.0).eight(sign),
+        Message::Waits {
+            engine,
+            section,
+            count,
+            change,
+        } => out.byte(12)
+            .byte(engine.0)
+            .section(section)
+            .four(count)
+            .four(change),
     }
 }
 

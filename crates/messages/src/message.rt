@@ -60,9 +60,17 @@ pub enum Message {
         holder: Holder,
         change: u32,
     },
-    WhichChange { engine: Engine, section: Section },
+    WhichChange {
+        engine: Engine,
+        section: Section,
+    },
     // The sign that `by` shows, told to `to`, which waits for it by its beginning `count`.
-    Sign { to: Engine, count: u32, by: Engine, sign: u64 },
+    Sign {
+        to: Engine,
+        count: u32,
+        by: Engine,
+        sign: u64,
+    },
     // `engine` waits for `section` by its beginning `count`, of the section's change `change`.
     Waits {
         engine: Engine,
@@ -88,5 +96,8 @@ pub enum Record {
         own: u64,
     },
     // A sign that `engine` heard and shows.
-    Heard { engine: Engine, sign: u64 },
+    Heard {
+        engine: Engine,
+        sign: u64,
+    },
 }

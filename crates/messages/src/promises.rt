@@ -1,4 +1,5 @@
 // What holds of all messages and all bytes, said once.
+ghost use Rattle.messages.specs.Journal.{CUT-IS-SHORT, ONE-LIST};
 ghost use Rattle.messages.specs.Promises.{CUT-REFUSED, NONE-BEGINS-ANOTHER, ONE-FORM, READS-BACK};
 
 pub fn reads_back() -> u8
@@ -21,6 +22,18 @@ pub fn none_begins_another() -> u8
 
 pub fn cut_refused() -> u8
     ensures { λ _. ⌜ CUT-REFUSED ⌝ }
+{
+    0
+}
+
+pub fn cut_is_short() -> u8
+    ensures { λ _. ⌜ CUT-IS-SHORT ⌝ }
+{
+    0
+}
+
+pub fn one_list() -> u8
+    ensures { λ _. ⌜ ONE-LIST ⌝ }
 {
     0
 }

@@ -1,5 +1,6 @@
 // The numbers that name things in a yard, and how many of each there are.
 ghost use Prim.Native.Nat.{_≤_};
+
 pub mod checks;
 
 // An engine's number, from 0 on.
@@ -18,13 +19,15 @@ pub struct Section {
 }
 
 pub const MOST_BOXES: u8 = 16;
+
 pub const MOST_ENGINES: u8 = 64;
+
 pub const PLACES: u8 = 64;
 
 // How many boxes and engines there are: what is in range is decided by it alone.
 #[derive(Clone, Copy)]
 pub struct Yard {
-    boxes: u8,
-    engines: u8,
+    pub boxes: u8,
+    pub engines: u8,
     ghost sizes: { (1 ≤ boxes) × (boxes ≤ 16) × (1 ≤ engines) × (engines ≤ 64) },
 }

@@ -20,7 +20,10 @@ impl Encoded {
         ensures bytes { λ r. ⌜ encoded r ≡ [] ⌝ }
         ensures used { λ r. ⌜ r .used ≡ 0 ⌝ }
     {
-        Encoded { bytes: [0u8; LONGEST], used: 0 }
+        Encoded {
+            bytes: [0u8; LONGEST],
+            used: 0,
+        }
     }
 
     pub(crate) fn byte(mut self, b: u8) -> Encoded
@@ -56,7 +59,14 @@ impl Encoded {
         ensures used { λ r. ⌜ r .used ≡ self .used + 8 ⌝ }
     {
         let [a, b, c, d, e, f, g, h] = n.to_be_bytes();
-        self.byte(a).byte(b).byte(c).byte(d).byte(e).byte(f).byte(g).byte(h)
+        self.byte(a)
+            .byte(b)
+            .byte(c)
+            .byte(d)
+            .byte(e)
+            .byte(f)
+            .byte(g)
+            .byte(h)
     }
 
     pub(crate) fn call(self, call: Call) -> Encoded
@@ -64,6 +74,9 @@ impl Encoded {
         ensures bytes { λ r. ⌜ encoded r ≡ encoded self ++ callBytes call ⌝ }
         ensures used { λ r. ⌜ r .used ≡ self .used + 8 ⌝ }
     {
-        self.byte(call.act.byte()).byte(call.engine.0).section(call.section).four(call.number)
+        self.byte(call.act.byte())
+            .byte(call.engine.0)
+            .section(call.section)
+            .four(call.number)
     }
 }

@@ -1,6 +1,6 @@
 // From bytes to records, and back.
 ghost use mathlib.Core.Path.{_≡_};
-ghost use Rattle.messages.specs.Journal.{FirstIs, actOf, beginningOf, heardOf, keptOf, madeOf, recordOf, sizeOf, wholeCall};
+ghost use Rattle.messages.specs.Journal.{FirstIs, ReadIs, actOf, beginningOf, heardOf, keptOf, madeOf, recordOf, sizeOf, wholeCall};
 ghost use Rattle.messages.specs.Table.{recordBytes};
 ghost use Rattle.messages.specs.Written.{encoded};
 use crate::decoder::call;
@@ -9,7 +9,10 @@ use crate::message::Act;
 use crate::message::Call;
 use crate::message::Record;
 use crate::records::First;
+use crate::records::Replay;
+use crate::records::Unread;
 use crate::yard::Yard;
+use std::alloc::Global;
 
 pub fn encode_record(record: Record) -> Encoded
     ensures { λ r. ⌜ encoded r ≡ recordBytes «record» ⌝ }
@@ -18,10 +21,65 @@ pub fn encode_record(record: Record) -> Encoded
     match record {
         Record::Kept(call) => out.call(call),
         Record::Made(call) => out.byte(10).call(call),
-        Record::Beginning { engine, section, change, holder, count, own } => {
-            out.byte(8).byte(engine.0).section(section).four(change).byte(holder.0).four(count).eight(own)
+        Record::Beginning {
+            engine,
+            section,
+            change,
+            holder,
+            count,
+            own,
+        } => {
+            out.byte(8)
+                .byte(engine.0)
+                .section(section)
+                .four(change)
+                .byte(holder.0)
+                .four(count)
+                .eight(own)
         }
         Record::Heard { engine, sign } => out.byte(9).byte(engine.0).eight(sign),
+    }
+}
+
+// What stands first in `bytes`.
+pub fn first_record(yard: Yard, bytes: &[u8]) -> First
+    ensures { λ r. ⌜ FirstIs yard (now (bytes .entry)) r ⌝ }
+{
+    let [first, ..] = bytes else {
+        return First::Cut;
+    };
+    let Some(length) = size_of(*first) else {
+        return First::Damaged;
+    };
+    if bytes.len() < length {
+        return First::Cut;
+    }
+    match whole_record(yard, &bytes[..length]) {
+        Some(record) => First::Whole { record, length },
+        None => First::Damaged,
+    }
+}
+
+// The records of `bytes` up to one that is cut; none where it is damaged.
+pub fn read_records(heap: Global, yard: Yard, bytes: &[u8]) -> Result<Replay, Unread>
+    ensures { λ r. ⌜ ReadIs yard (now (bytes .entry)) r ⌝ }
+{
+    let mut records = Vec::new(heap);
+    let mut length = 0usize;
+    'next: loop {
+        match first_record(yard, &bytes[length..]) {
+            First::Whole {
+                record,
+                length: more,
+            } => {
+                let Ok(()) = records.push(record) else {
+                    return Err(Unread::NoMemory);
+                };
+                length += more;
+            }
+            First::Cut => return Ok(Replay { records, length }),
+            First::Damaged => return Err(Unread::Damaged { at: length }),
+        }
     }
 }
 
@@ -76,7 +134,29 @@ fn act_of(first: u8) -> Option<Act>
 fn beginning(yard: Yard, rest: &[u8]) -> Option<Record>
     ensures { λ r. ⌜ r ≡ beginningOf yard (now (rest .entry)) ⌝ }
 {
-    let [engine, keeper, place, c3, c2, c1, c0, holder, n3, n2, n1, n0, s7, s6, s5, s4, s3, s2, s1, s0] = rest else {
+    let [
+        engine,
+        keeper,
+        place,
+        c3,
+        c2,
+        c1,
+        c0,
+        holder,
+        n3,
+        n2,
+        n1,
+        n0,
+        s7,
+        s6,
+        s5,
+        s4,
+        s3,
+        s2,
+        s1,
+        s0,
+    ] = rest
+    else {
         return None;
     };
     let engine = yard.engine(*engine)?;
@@ -85,7 +165,14 @@ fn beginning(yard: Yard, rest: &[u8]) -> Option<Record>
     let change = u32::from_be_bytes([*c3, *c2, *c1, *c0]);
     let count = u32::from_be_bytes([*n3, *n2, *n1, *n0]);
     let own = u64::from_be_bytes([*s7, *s6, *s5, *s4, *s3, *s2, *s1, *s0]);
-    Some(Record::Beginning { engine, section, change, holder, count, own })
+    Some(Record::Beginning {
+        engine,
+        section,
+        change,
+        holder,
+        count,
+        own,
+    })
 }
 
 fn heard(yard: Yard, rest: &[u8]) -> Option<Record>

@@ -24,18 +24,6 @@ impl Yard {
         Some(Yard { boxes, engines })
     }
 
-    pub fn boxes(self) -> u8
-        ensures { λ r. ⌜ r ≡ self .boxes ⌝ }
-    {
-        self.boxes
-    }
-
-    pub fn engines(self) -> u8
-        ensures { λ r. ⌜ r ≡ self .engines ⌝ }
-    {
-        self.engines
-    }
-
     pub fn engine(self, number: u8) -> Option<Engine>
         ensures { λ r. ⌜ r ≡ engineOf self number ⌝ }
     {
@@ -60,7 +48,10 @@ impl Yard {
         ensures { λ r. ⌜ r ≡ sectionOf self keeper place ⌝ }
     {
         if keeper < self.boxes && place < PLACES {
-            Some(Section { keeper: BoxNumber(keeper), place })
+            Some(Section {
+                keeper: BoxNumber(keeper),
+                place,
+            })
         } else {
             None
         }

@@ -10,6 +10,6 @@ use Rattle.messages.proofs.decoder.decode.Needs as need
 
 pub returns : need.returns
 returns c =
-  let is : c .ok-or .result ≡ okOr (messageOf (c .args .yard) (c .args .bytes .now)) refusal.Malformed
-      = c .ok-or .ensures .value ∙ ap (λ (o : Option Message). okOr o refusal.Malformed) (c .whole .ensures) in
-  record { value = is; exact = decided (c .args .yard) (c .args .bytes .now) (c .ok-or .result) (λ i. omega (arith, c .typed .bytes i)) is }
+    let is : c .ok-or .result ≡ okOr (messageOf (c .args .yard) (c .args .bytes .now)) refusal.Malformed
+    = c .ok-or .ensures .value ∙ ap (λ (o : Option Message). okOr o refusal.Malformed) (c .whole .ensures) in
+    record { value = is; exact = decided (c .args .yard) (c .args .bytes .now) (c .ok-or .result) (λ i. omega (arith, c .typed .bytes i)) is }
