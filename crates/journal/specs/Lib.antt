@@ -1,3 +1,4 @@
 pub mod Effect
-pub mod Storage
 pub mod Memory
+pub mod Opening
+pub mod Storage

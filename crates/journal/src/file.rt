@@ -15,6 +15,8 @@ pub trait File {
     // It holds these bytes, and so many of the first of them are synced.
     ghost holds: { Self → List ℕ → ℕ → Type 0 };
 
+    law within: { (f : Self) (xs : List ℕ) (n : ℕ) → holds f xs n → n ≤ length xs };
+
     // A sync succeeded after the last append or cut.
     ghost settled: { Self → Type 0 };
 
