@@ -1,0 +1,32 @@
+// The file of a box: what is recorded, synced, said only then, and read back after a stop.
+mod after_stop;
+mod disk;
+mod effects;
+mod fault;
+mod file;
+mod memory;
+mod opening;
+mod output;
+mod promises;
+mod store;
+
+pub use after_stop::restart;
+pub use disk::DiskFile;
+pub use disk::DiskFileFile;
+pub use effects::Effects;
+pub use effects::Said;
+pub use fault::Fault;
+pub use fault::FaultDebug;
+pub use fault::FaultFromAllocError;
+pub use fault::FaultFromRefused;
+pub use fault::FaultPartialEq;
+pub use file::File;
+pub use memory::MemoryFile;
+pub use memory::storing::MemoryFileFile;
+pub use opening::OpenFault;
+pub use opening::cut_back;
+pub use opening::open;
+pub use opening::read_back;
+pub use output::Output;
+pub use promises::appended_reads_back;
+pub use promises::opened_twice;
