@@ -1,0 +1,4 @@
+pub mod Places
+pub mod State
+pub mod Calls
+pub mod Inputs
