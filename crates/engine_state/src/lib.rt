@@ -1,9 +1,10 @@
 // One engine at its home: its calls, its waits, what it holds, and what comes of each input, by value.
 mod inputs;
-mod places;
+pub mod places;
 mod state;
 
 pub use places::Places;
+pub use places::is_same;
 pub use state::Asked;
 pub use state::Event;
 pub use state::Known;

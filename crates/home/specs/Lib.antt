@@ -1,1 +1,3 @@
 pub mod Home
+pub mod Queries
+pub mod Inputs

@@ -27,12 +27,12 @@ pub enum Note {
 // `signs` and `stored` are rebuilt from the file; `known` and `notes` are lost when the box stops.
 #[derive(Clone, Copy)]
 pub struct Home {
-    yard: Yard,
-    number: BoxNumber,
-    signs: Engines,
-    stored: [Stored; 64],
-    known: [Known; 64],
-    notes: [Note; 64],
+    pub(crate) yard: Yard,
+    pub(crate) number: BoxNumber,
+    pub(crate) signs: Engines,
+    pub(crate) stored: [Stored; 64],
+    pub(crate) known: [Known; 64],
+    pub(crate) notes: [Note; 64],
 }
 
 // Is the box the home of the engine, in that yard.
@@ -87,7 +87,7 @@ impl Home {
         })
     }
 
-    fn put(&mut self, engine: Engine, state: State)
+    pub(crate) fn put(&mut self, engine: Engine, state: State)
         requires { ⌜ engine .0 < 64 ⌝ }
         ensures { λ _. ⌜ now (self .exit) ≡ with (now (self .entry)) engine state ⌝ }
     {
@@ -97,7 +97,7 @@ impl Home {
         self.known[i] = state.known;
     }
 
-    fn record_made(&mut self, call: Call)
+    pub(crate) fn record_made(&mut self, call: Call)
         ensures { λ _. ⌜ now (self .exit) ≡ madeOf (now (self .entry)) call ⌝ }
     {
         if let Ok(state) = self.state(call.engine) {
