@@ -1,10 +1,16 @@
 // Messages between boxes and records of a box's file: their bytes, and what is turned away.
 mod yard;
 mod message;
-mod decode;
-mod encode;
+mod decoder;
+mod encoder;
 mod encoded;
+mod promises;
+mod records;
 
+pub use decoder::decode;
+pub use encoder::encode;
+pub use encoded::Encoded;
+pub use encoded::LONGEST;
 pub use message::Act;
 pub use message::Call;
 pub use message::Holder;
@@ -12,6 +18,12 @@ pub use message::Message;
 pub use message::Record;
 pub use message::Refusal;
 pub use message::Reply;
+pub use promises::cut_refused;
+pub use promises::none_begins_another;
+pub use promises::one_form;
+pub use promises::reads_back;
+pub use records::First;
+pub use records::reading::encode_record;
 pub use yard::BoxNumber;
 pub use yard::Engine;
 pub use yard::Section;

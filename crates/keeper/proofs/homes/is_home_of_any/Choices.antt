@@ -1,0 +1,8 @@
+-- behind this engine there is as much to find as in all
+use mathlib.Core.Path.{_≡_}
+use lib.ListN.{drop}
+use Rattle.keeper.specs.Homes.{homeOfAny}
+use Rattle.keeper.proofs.homes.is_home_of_any.Given as given
+
+abbrev pub Inv-loop-engine : given.InvT-loop-engine
+Inv-loop-engine l = homeOfAny (l .yard) (l .number) (drop (l .engine-index) (l .engines)) ≡ homeOfAny (l .yard) (l .number) (l .engines)

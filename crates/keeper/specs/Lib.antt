@@ -1,0 +1,5 @@
+pub mod Words
+pub mod Model
+pub mod Calls
+pub mod Promise
+pub mod Homes
