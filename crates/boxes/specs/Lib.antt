@@ -1,2 +1,5 @@
 pub mod Log
 pub mod Emit
+pub mod Model
+pub mod Keeping
+pub mod Handle

@@ -40,7 +40,7 @@ fn tell(home: &Home, by: Engine, sign: u64, to: Engine, effects: &mut Effects) -
 }
 
 // The sign that `by` shows, to all of its waiters.
-fn tell_waiters(home: &Home, by: Engine, sign: u64, effects: &mut Effects) -> Result<(), Fault>
+pub(crate) fn tell_waiters(home: &Home, by: Engine, sign: u64, effects: &mut Effects) -> Result<(), Fault>
     ensures { λ r. ⌜ made r (λ _. logOf (now (effects .exit)) ≡ tellsOf (now (home .entry)) by sign (logOf (now (effects .entry)))) ⌝ }
 {
     let engines = home.yard().engines();
@@ -50,7 +50,7 @@ fn tell_waiters(home: &Home, by: Engine, sign: u64, effects: &mut Effects) -> Re
     Ok(())
 }
 
-fn send(to: BoxNumber, message: Message, effects: &mut Effects) -> Result<(), Fault>
+pub(crate) fn send(to: BoxNumber, message: Message, effects: &mut Effects) -> Result<(), Fault>
     ensures { λ r. ⌜ made r (λ _. logOf (now (effects .exit)) ≡ sent (logOf (now (effects .entry))) to message) ⌝ }
 {
     effects.say(Output::Send { to, message })

@@ -1,2 +1,10 @@
 // A signal box: the keeper of its sections and the home of its engines, as one function from an input to effects.
 mod emit;
+mod signal_box;
+mod keeping;
+mod handle;
+mod second;
+
+pub use emit::home_of;
+pub use signal_box::Input;
+pub use signal_box::SignalBox;
