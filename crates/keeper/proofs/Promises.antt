@@ -9,6 +9,8 @@ use lib.Dec.{eqb, ltb}
 use lib.ListN.{length, getD, set}
 use Rattle.std.proofs.shelf.Lists.{getD-set-same, getD-set-other, length-map, set-getD}
 use Rattle.std.proofs.shelf.Tests.{and-parts, cases-bool, cases-eq, cond-both, eq-eqb, eqb-false, eqb-true, ltb-true, ne-eqb}
+use Rattle.std.specs.declared.option.Option.{Option}
+use Rattle.std.specs.declared.option.Option.the-variants.{Some, None}
 use Rattle.std.specs.declared.result.Result.{Result}
 use Rattle.std.specs.declared.result.Result.the-variants.{Ok, Err}
 use Rattle.messages.specs.declared.message.Act.{Act}
@@ -20,7 +22,7 @@ use Rattle.sections.specs.declared.Holder.{Holder}
 use Rattle.sections.specs.declared.Holder.the-variants as has
 use Rattle.sections.specs.declared.Refusal.{Refusal}
 use Rattle.sections.specs.declared.Refusal.the-variants as not
-use Rattle.sections.specs.Table.{Outcome, Section, Table, changeable, freeBy, freeOutcome, giveUpOutcome, holder-of, idle, isIn, known, section-of, settle, takeBy, takeOutcome, waits}
+use Rattle.sections.specs.Table.{Outcome, Section, Table, changeable, freeBy, freeOutcome, giveUpOutcome, holder-of, idle, isIn, known, refusalOf, section-of, settle, takeBy, takeOutcome, unless}
 use Rattle.sections.specs.Layout.{sectionOf}
 use Rattle.keeper.specs.declared.Answer.{Answer}
 use Rattle.keeper.specs.declared.LastCall.{LastCall}
@@ -90,6 +92,10 @@ free-names : (h : Holder) (s : Section) (e : ℕ) → LetGoTo (freeBy h s e)
 free-names has.Free s e = tt
 free-names (has.Engine x) s e = cond-both (eqb x e) _ _ LetGoTo (λ _. cond-both (changeable s) _ _ LetGoTo (λ _. refl) (λ _. tt)) (λ _. tt)
 
+unless-names : (r : Option Refusal) (o : Outcome) → LetGoTo o → LetGoTo (unless r o)
+unless-names (Some r) o h = tt
+unless-names None o h = h
+
 settle-names : (t : Table) (p : ℕ) (o : Outcome) → LetGoTo o → (after : Table) (to : Holder) → p < length t → settle t p o ≡ (after, Ok (did.LetGo to)) → holder-of after p ≡ to
 settle-names t p (Ok (s, did.Had)) names after to h q = absurd (other-done did.Had to (ap (λ x. x .1) q) refl)
 settle-names t p (Ok (s, did.Waits x)) names after to h q = absurd (other-done (did.Waits x) to (ap (λ x. x .1) q) refl)
@@ -99,12 +105,8 @@ settle-names t p (Ok (s, did.Left)) names after to h q = absurd (other-done did.
 settle-names t p (Err x) names after to h q = absurd (ok-not-err (did.LetGo to) x (sym (ap (λ x. x .1) q)))
 
 do-names : (a : Act) (t : Table) (e p : ℕ) (after : Table) (to : Holder) → p < length t → doBy a t e p ≡ (after, Ok (did.LetGo to)) → holder-of after p ≡ to
-do-names act.Take t e p =
-    settle-names t p (takeOutcome t e p)
-    (cond-both (known e p) _ _ LetGoTo (λ _. cond-both (waits e t) _ _ LetGoTo (λ _. tt) (λ _. take-names (section-of t p .has) (section-of t p) e)) (λ _. tt))
-do-names act.Free t e p =
-    settle-names t p (freeOutcome t e p)
-    (cond-both (known e p) _ _ LetGoTo (λ _. cond-both (waits e t) _ _ LetGoTo (λ _. tt) (λ _. free-names (section-of t p .has) (section-of t p) e)) (λ _. tt))
+do-names act.Take t e p = settle-names t p (takeOutcome t e p) (unless-names (refusalOf t e p) _ (take-names (section-of t p .has) (section-of t p) e))
+do-names act.Free t e p = settle-names t p (freeOutcome t e p) (unless-names (refusalOf t e p) _ (free-names (section-of t p .has) (section-of t p) e))
 do-names act.GiveUp t e p =
     settle-names t p (giveUpOutcome t e p)
     (cond-both (known e p) _ _ LetGoTo (λ _. cond-both (isIn e (section-of t p .queue)) _ _ LetGoTo (λ _. tt) (λ _. tt)) (λ _. tt))
