@@ -101,7 +101,7 @@ answered x engines r h change None = refuse x refusal.WrongCall
 answered x engines r h change (Some c) = answerTo x c engines r h change (c .act)
 
 -- an answer of a box to the call of that number
-abbrev pub answerAt : State → BoxNumber → Engine → ℕ → ℕ → Reply → Holder → ℕ → State × Event
+unfoldable pub answerAt : State → BoxNumber → Engine → ℕ → ℕ → Reply → Holder → ℕ → State × Event
 answerAt x from e engines n r h change = answered x engines r h change (awaited x from e n)
 
 abbrev pub passedTo : State → Engine → ℕ → Section → ℕ → Holder → State × Event
@@ -115,7 +115,7 @@ changed x e engines s h change None = (x, event.PassedOver)
 changed x e engines s h change (Some w) =
     cond (sameSection (w .section) s && ltb (w .change) change) (passedTo x e engines s change h) (x, event.PassedOver)
 
-abbrev pub changeAt : State → Engine → ℕ → Section → Holder → ℕ → State × Event
+unfoldable pub changeAt : State → Engine → ℕ → Section → Holder → ℕ → State × Event
 changeAt x e engines s h change = changed x e engines s h change (waitOf x)
 
 abbrev pub gaveUpBy : State → Result Call Refusal → State × Event
@@ -137,5 +137,5 @@ abbrev pub heardWaiting : State → Engine → ℕ → Engine → ℕ → Option
 heardWaiting x e count by sign None = refuse x refusal.Stale
 heardWaiting x e count by sign (Some w) = listened x e (w .section) (listenOf (x .signs) (by .0) count sign)
 
-abbrev pub signAt : State → Engine → ℕ → Engine → ℕ → State × Event
+unfoldable pub signAt : State → Engine → ℕ → Engine → ℕ → State × Event
 signAt x e count by sign = heardWaiting x e count by sign (waitOf x)

@@ -1,6 +1,10 @@
 // What answers, changes and signs make of one engine, and the event that each gives.
 ghost use mathlib.Core.Path.{_≡_};
 ghost use Rattle.engine_state.specs.Inputs.{refusedFor, isEngine, beginAt, takenBy, endedBy, awaited, answerTo, answerAt, changeAt, foundAt, signAt};
+use crate::places::is_same;
+use crate::state::Event;
+use crate::state::Known;
+use crate::state::State;
 use messages::Act;
 use messages::BoxNumber;
 use messages::Call;
@@ -9,10 +13,6 @@ use messages::Holder;
 use messages::Refusal;
 use messages::Reply;
 use messages::Section;
-use crate::places::is_same;
-use crate::state::Event;
-use crate::state::Known;
-use crate::state::State;
 
 fn refused_for(refusal: signs::Refusal) -> Refusal
     ensures { λ r. ⌜ r ≡ refusedFor refusal ⌝ }
@@ -37,7 +37,14 @@ fn is_engine(holder: Holder, engine: Engine) -> bool
 
 impl State {
     // Begins to wait for `whom`, in a yard of so many engines.
-    fn begin(self, engine: Engine, engines: u8, section: Section, change: u32, whom: Engine) -> (State, Event)
+    fn begin(
+        self,
+        engine: Engine,
+        engines: u8,
+        section: Section,
+        change: u32,
+        whom: Engine,
+    ) -> (State, Event)
         ensures { λ r. ⌜ r ≡ beginAt self engine engines section change whom ⌝ }
     {
         match self.signs.begin(engine.0, engines, whom.0) {
@@ -57,16 +64,29 @@ impl State {
     }
 
     // The answer to an open take.
-    fn taken(self, call: Call, engines: u8, reply: Reply, holder: Holder, change: u32) -> (State, Event)
+    fn taken(
+        self,
+        call: Call,
+        engines: u8,
+        reply: Reply,
+        holder: Holder,
+        change: u32,
+    ) -> (State, Event)
         ensures { λ r. ⌜ r ≡ takenBy self call engines reply holder change ⌝ }
     {
         match (reply, holder) {
             (Reply::Done, _) => (
                 self.knowing(Known::Had),
-                Event::Had { engine: call.engine, section: call.section },
+                Event::Had {
+                    engine: call.engine,
+                    section: call.section,
+                },
             ),
             (Reply::Refused(Refusal::Exhausted), _) => (self, Event::Refused(Refusal::Exhausted)),
-            (Reply::Refused(refusal), _) => (self.knowing(Known::Closed), Event::RefusedBy(refusal)),
+            (Reply::Refused(refusal), _) => (
+                self.knowing(Known::Closed),
+                Event::RefusedBy(refusal),
+            ),
             (Reply::Waits, Holder::Nobody) => (self, Event::Refused(Refusal::WrongCall)),
             (Reply::Waits, Holder::Engine(whom)) => {
                 if whom.0 == call.engine.0 {
@@ -108,7 +128,14 @@ impl State {
         }
     }
 
-    fn answer_to(self, call: Call, engines: u8, reply: Reply, holder: Holder, change: u32) -> (State, Event)
+    fn answer_to(
+        self,
+        call: Call,
+        engines: u8,
+        reply: Reply,
+        holder: Holder,
+        change: u32,
+    ) -> (State, Event)
         ensures { λ r. ⌜ r ≡ answerTo self call engines reply holder change (call .act) ⌝ }
     {
         match call.act {
@@ -118,7 +145,16 @@ impl State {
     }
 
     // An answer of the box `from` to the call `number`.
-    pub fn answer(self, from: BoxNumber, engine: Engine, engines: u8, number: u32, reply: Reply, holder: Holder, change: u32) -> (State, Event)
+    pub fn answer(
+        self,
+        from: BoxNumber,
+        engine: Engine,
+        engines: u8,
+        number: u32,
+        reply: Reply,
+        holder: Holder,
+        change: u32,
+    ) -> (State, Event)
         ensures { λ r. ⌜ r ≡ answerAt self from engine engines number reply holder change ⌝ }
     {
         match self.awaited(from, engine, number) {
@@ -128,7 +164,14 @@ impl State {
     }
 
     // A section has passed to `holder` by its change `change`.
-    pub fn change_at(self, engine: Engine, engines: u8, section: Section, holder: Holder, change: u32) -> (State, Event)
+    pub fn change_at(
+        self,
+        engine: Engine,
+        engines: u8,
+        section: Section,
+        holder: Holder,
+        change: u32,
+    ) -> (State, Event)
         ensures { λ r. ⌜ r ≡ changeAt self engine engines section holder change ⌝ }
     {
         let Some(wait) = self.wait() else {
@@ -168,7 +211,10 @@ impl State {
         match self.signs.listen(by.0, count, sign) {
             Err(refusal) => (self, Event::Refused(refused_for(refusal))),
             Ok((_, signs::Heard::PassedOver)) => (self, Event::PassedOver),
-            Ok((_, signs::Heard::TellOn(sign))) => (self.heard(sign), Event::Heard { engine, sign }),
+            Ok((_, signs::Heard::TellOn(sign))) => (
+                self.heard(sign),
+                Event::Heard { engine, sign },
+            ),
             Ok((_, signs::Heard::Found)) => self.found(engine, wait.section),
         }
     }

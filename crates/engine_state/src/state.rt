@@ -269,7 +269,19 @@ impl State {
         ensures { λ r. ⌜ r ≡ openOf self engine ⌝ }
     {
         match (self.known, self.stored.mode) {
-            (Known::Pending, Mode::Called { act, section, number }) => Some(Call { act, engine, section, number }),
+            (
+                Known::Pending,
+                Mode::Called {
+                    act,
+                    section,
+                    number,
+                },
+            ) => Some(Call {
+                act,
+                engine,
+                section,
+                number,
+            }),
             _ => None,
         }
     }
@@ -279,12 +291,13 @@ impl State {
         ensures { λ r. ⌜ r ≡ waitOf self ⌝ }
     {
         match (self.known, self.stored.mode, self.signs.wait) {
-            (Known::Pending, Mode::Waiting { section, change }, signs::Wait::For(whom)) => Some(Wait {
-                section,
-                whom: Engine(whom),
-                count: self.signs.count,
-                change,
-            }),
+            (Known::Pending, Mode::Waiting { section, change }, signs::Wait::For(whom)) =>
+                Some(Wait {
+                    section,
+                    whom: Engine(whom),
+                    count: self.signs.count,
+                    change,
+                }),
             _ => None,
         }
     }
@@ -329,11 +342,21 @@ impl State {
     }
 
     // The next call to a section's box.
-    pub(crate) fn next_call(self, act: Act, engine: Engine, section: Section) -> Result<Call, Refusal>
+    pub(crate) fn next_call(
+        self,
+        act: Act,
+        engine: Engine,
+        section: Section,
+    ) -> Result<Call, Refusal>
         ensures { λ r. ⌜ r ≡ nextCall self act engine section ⌝ }
     {
         match self.stored.next_number(section.keeper) {
-            Some(number) => Ok(Call { act, engine, section, number }),
+            Some(number) => Ok(Call {
+                act,
+                engine,
+                section,
+                number,
+            }),
             None => Err(Refusal::Exhausted),
         }
     }

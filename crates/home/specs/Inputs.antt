@@ -93,8 +93,8 @@ abbrev pub noted : Home → Engine → Section → ℕ → Engine → Home × Ev
 noted h e s count by =
     cond (leb 64 (e .0) || isOlder count (noteAt h e)) (h, event.PassedOver)
     (cond (isOurs h by)
-      (withNotes h (set (h .notes) (e .0) (note.Waits s count)), event.Noted e count by (at h by .signs .shown))
-      (h, event.PassedOver))
+    (withNotes h (set (h .notes) (e .0) (note.Waits s count)), event.Noted e count by (at h by .signs .shown))
+    (h, event.PassedOver))
 
 abbrev pub notedFor : Home → Engine → Section → ℕ → Option Engine → Home × Event
 notedFor h e s count None = (h, event.PassedOver)

@@ -1,7 +1,8 @@
 // The home's half of a signal box: its engines, each input at one of them, without input or output.
 mod home;
-mod shape;
+mod inputs;
 mod queries;
 
 pub use home::Home;
 pub use home::Note;
+pub use home::is_home;

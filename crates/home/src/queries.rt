@@ -1,12 +1,12 @@
 // What is asked of a home: nothing changes.
 ghost use mathlib.Core.Path.{_≡_};
 ghost use Rattle.home.specs.Queries.{openAt, waitAt, holdsAt, givingBackAt, signsAt, noteAt, holderOf};
+use crate::home::Home;
+use crate::home::Note;
+use engine_state::Wait;
 use messages::Call;
 use messages::Engine;
 use messages::Section;
-use engine_state::Wait;
-use crate::home::Home;
-use crate::home::Note;
 
 const ENGINES: u8 = 64;
 
