@@ -5,6 +5,9 @@ use Prim.Native.Nat.{ℕ}
 use lib.Dec.{eqb}
 use Rattle.std.specs.declared.option.Option.{Option}
 use Rattle.std.specs.declared.option.Option.the-variants.{Some, None}
+use Rattle.std.specs.Options.{okOr}
+use Rattle.std.specs.declared.result.Result.{Result}
+use Rattle.std.specs.declared.result.Result.the-variants.{Ok, Err}
 use Rattle.messages.specs.declared.yard.BoxNumber.{BoxNumber}
 use Rattle.messages.specs.declared.yard.Engine.{Engine}
 use Rattle.messages.specs.declared.yard.Section.{Section}
@@ -13,6 +16,8 @@ use Rattle.messages.specs.declared.message.Holder.{Holder}
 use Rattle.messages.specs.declared.message.Holder.the-variants as holder
 use Rattle.messages.specs.declared.message.Message.{Message}
 use Rattle.messages.specs.declared.message.Message.the-variants as message
+use Rattle.messages.specs.declared.message.Refusal.{Refusal}
+use Rattle.messages.specs.declared.message.Refusal.the-variants as refusal
 use Rattle.messages.specs.Reading.{messageOf}
 use Rattle.sections.specs.Table.{change-of, holder-of}
 use Rattle.keeper.specs.Words.{holderOf}
@@ -59,12 +64,16 @@ waitHere b e s count change l =
     (waitSent b e s count change (holderOf (holder-of (b .keeper .table) (s .place))) l)
     (b, l)
 
+abbrev pub waitFromHome : State → BoxNumber → Engine → Section → ℕ → ℕ → Log → State × Log
+waitFromHome b from e s count change l = cond (isHome (b .home .yard) from e) (waitHere b e s count change l) (refused b l)
+
+abbrev pub waitFromKeeper : State → BoxNumber → Engine → Section → ℕ → Log → State × Log
+waitFromKeeper b from e s count l = cond (eqb (from .0) (s .keeper .0)) (happened b (waitsOf (b .home) e s count) l) (refused b l)
+
 -- that an engine waits: from its home for a section here, and from the section's box for one elsewhere
 abbrev pub waitAtBox : State → BoxNumber → Engine → Section → ℕ → ℕ → Log → State × Log
 waitAtBox b from e s count change l =
-    cond (eqb (s .keeper .0) (b .home .number .0))
-    (cond (isHome (b .home .yard) from e) (waitHere b e s count change l) (refused b l))
-    (cond (eqb (from .0) (s .keeper .0)) (happened b (waitsOf (b .home) e s count) l) (refused b l))
+    cond (eqb (s .keeper .0) (b .home .number .0)) (waitFromHome b from e s count change l) (waitFromKeeper b from e s count l)
 
 -- one message, from its sender
 abbrev pub receivedOf : State → BoxNumber → Message → Log → State × Log
@@ -75,13 +84,14 @@ receivedOf b from (message.WhichChange e s) l = whichAt b from e s l
 receivedOf b from (message.Sign t n by s) l = happened b (signOf (b .home) from t n by s) l
 receivedOf b from (message.Waits e s n c) l = waitAtBox b from e s n c l
 
--- the bytes of a message, from its sender; what is no message is refused by 1
-abbrev pub decodedOf : State → BoxNumber → Option Message → Log → State × Log
-decodedOf b from None l = refused b l
-decodedOf b from (Some m) l = receivedOf b from m l
+-- what was decoded; what is no message is turned away
+abbrev pub decodedOf : State → BoxNumber → Result Message Refusal → Log → State × Log
+decodedOf b from (Ok m) l = receivedOf b from m l
+decodedOf b from (Err r) l = (b, said l (output.Refused r))
 
+-- the bytes of a message, from its sender
 abbrev pub deliveredOf : State → BoxNumber → List ℕ → Log → State × Log
-deliveredOf b from bytes l = decodedOf b from (messageOf (b .home .yard) bytes) l
+deliveredOf b from bytes l = decodedOf b from (okOr (messageOf (b .home .yard) bytes) refusal.Malformed) l
 
 abbrev pub openAgain : Option Call → Log → Log
 openAgain None l = l

@@ -32,7 +32,12 @@ fn tell(home: &Home, by: Engine, sign: u64, to: Engine, effects: &mut Effects) -
         if home.holds(by, section) {
             effects.say(Output::Send {
                 to: home_of(home.yard(), to),
-                message: Message::Sign { to, count, by, sign },
+                message: Message::Sign {
+                    to,
+                    count,
+                    by,
+                    sign,
+                },
             })?;
         }
     }
@@ -40,7 +45,12 @@ fn tell(home: &Home, by: Engine, sign: u64, to: Engine, effects: &mut Effects) -
 }
 
 // The sign that `by` shows, to all of its waiters.
-pub(crate) fn tell_waiters(home: &Home, by: Engine, sign: u64, effects: &mut Effects) -> Result<(), Fault>
+pub(crate) fn tell_waiters(
+    home: &Home,
+    by: Engine,
+    sign: u64,
+    effects: &mut Effects,
+) -> Result<(), Fault>
     ensures { λ r. ⌜ made r (λ _. logOf (now (effects .exit)) ≡ tellsOf (now (home .entry)) by sign (logOf (now (effects .entry)))) ⌝ }
 {
     let engines = home.yard().engines();
@@ -68,16 +78,43 @@ fn tell_to_give_back(call: Call, effects: &mut Effects) -> Result<(), Fault>
     ensures { λ r. ⌜ made r (λ _. logOf (now (effects .exit)) ≡ foundOf call (logOf (now (effects .entry)))) ⌝ }
 {
     effects.record(Record::Made(call))?;
-    effects.say(Output::GiveBack { engine: call.engine })?;
+    effects.say(Output::GiveBack {
+        engine: call.engine,
+    })?;
     send(call.section.keeper, Message::Call(call), effects)
 }
 
 // An engine begins to wait: the section's box is told, and those that wait for the engine are told its new sign.
-fn say_beginning(home: &Home, engine: Engine, section: Section, change: u32, holder: Engine, count: u32, own: u64, effects: &mut Effects) -> Result<(), Fault>
+fn say_beginning(
+    home: &Home,
+    engine: Engine,
+    section: Section,
+    change: u32,
+    holder: Engine,
+    count: u32,
+    own: u64,
+    effects: &mut Effects,
+) -> Result<(), Fault>
     ensures { λ r. ⌜ made r (λ _. logOf (now (effects .exit)) ≡ beganOf (now (home .entry)) engine section change holder count own (logOf (now (effects .entry)))) ⌝ }
 {
-    effects.record(Record::Beginning { engine, section, change, holder, count, own })?;
-    send(section.keeper, Message::Waits { engine, section, count, change }, effects)?;
+    effects.record(Record::Beginning {
+        engine,
+        section,
+        change,
+        holder,
+        count,
+        own,
+    })?;
+    send(
+        section.keeper,
+        Message::Waits {
+            engine,
+            section,
+            count,
+            change,
+        },
+        effects,
+    )?;
     tell_waiters(home, engine, own, effects)
 }
 
@@ -87,19 +124,40 @@ pub(crate) fn emit(home: &Home, event: Event, effects: &mut Effects) -> Result<(
 {
     match event {
         Event::PassedOver | Event::Closed => Ok(()),
-        Event::Refused(refusal) | Event::RefusedBy(refusal) => effects.say(Output::Refused(refusal)),
+        Event::Refused(refusal) | Event::RefusedBy(refusal) => effects.say(Output::Refused(
+            refusal,
+        )),
         Event::Had { engine, section } => effects.say(Output::Had { engine, section }),
         Event::Called(call) => send_call(call, effects),
         Event::Found(call) => tell_to_give_back(call, effects),
-        Event::Began { engine, section, change, holder, count, own } => {
-            say_beginning(home, engine, section, change, holder, count, own, effects)
-        }
+        Event::Began {
+            engine,
+            section,
+            change,
+            holder,
+            count,
+            own,
+        } => { say_beginning(home, engine, section, change, holder, count, own, effects) }
         Event::Heard { engine, sign } => {
             effects.record(Record::Heard { engine, sign })?;
             tell_waiters(home, engine, sign, effects)
         }
-        Event::Noted { to, count, by, sign } => {
-            send(home_of(home.yard(), to), Message::Sign { to, count, by, sign }, effects)
+        Event::Noted {
+            to,
+            count,
+            by,
+            sign,
+        } => {
+            send(
+                home_of(home.yard(), to),
+                Message::Sign {
+                    to,
+                    count,
+                    by,
+                    sign,
+                },
+                effects,
+            )
         }
     }
 }

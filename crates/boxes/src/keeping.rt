@@ -30,17 +30,39 @@ impl SignalBox {
         section.keeper.0 == self.home.number().0 && is_home(self.home.yard(), from, engine)
     }
 
-    fn send_change(&self, section: Section, holder: Holder, change: u32, to: u8, effects: &mut Effects) -> Result<(), Fault>
+    fn send_change(
+        &self,
+        section: Section,
+        holder: Holder,
+        change: u32,
+        to: u8,
+        effects: &mut Effects,
+    ) -> Result<(), Fault>
         ensures { λ r. ⌜ made r (λ _. logOf (now (effects .exit)) ≡ changeTo (stateOf (now (self .entry))) section holder change to (logOf (now (effects .entry)))) ⌝ }
     {
-        if self.keeper.has_home(section.place, self.home.yard(), BoxNumber(to)) {
-            send(BoxNumber(to), Message::Change { section, holder, change }, effects)?;
+        if self.keeper
+            .has_home(section.place, self.home.yard(), BoxNumber(to)) {
+            send(
+                BoxNumber(to),
+                Message::Change {
+                    section,
+                    holder,
+                    change,
+                },
+                effects,
+            )?;
         }
         Ok(())
     }
 
     // Who has the section now, to the homes of that one and of all in the queue.
-    fn send_changes(&self, section: Section, holder: Holder, change: u32, effects: &mut Effects) -> Result<(), Fault>
+    fn send_changes(
+        &self,
+        section: Section,
+        holder: Holder,
+        change: u32,
+        effects: &mut Effects,
+    ) -> Result<(), Fault>
         ensures { λ r. ⌜ made r (λ _. logOf (now (effects .exit)) ≡ changesOf (stateOf (now (self .entry))) section holder change (logOf (now (effects .entry)))) ⌝ }
     {
         let boxes = self.home.yard().boxes();
@@ -95,7 +117,12 @@ impl SignalBox {
         }
     }
 
-    pub(crate) fn call(&mut self, from: BoxNumber, call: Call, effects: &mut Effects) -> Result<(), Fault>
+    pub(crate) fn call(
+        &mut self,
+        from: BoxNumber,
+        call: Call,
+        effects: &mut Effects,
+    ) -> Result<(), Fault>
         ensures { λ r. ⌜ made r (λ _. (stateOf (now (self .exit)), logOf (now (effects .exit))) ≡ calledAt (stateOf (now (self .entry))) from call (logOf (now (effects .entry)))) ⌝ }
     {
         if !self.is_for_us(from, call.engine, call.section) {
@@ -105,7 +132,13 @@ impl SignalBox {
         self.say_verdict(call, verdict, effects)
     }
 
-    pub(crate) fn which_change(&self, from: BoxNumber, engine: Engine, section: Section, effects: &mut Effects) -> Result<(), Fault>
+    pub(crate) fn which_change(
+        &self,
+        from: BoxNumber,
+        engine: Engine,
+        section: Section,
+        effects: &mut Effects,
+    ) -> Result<(), Fault>
         ensures { λ r. ⌜ made r (λ _. (stateOf (now (self .entry)), logOf (now (effects .exit))) ≡ whichAt (stateOf (now (self .entry))) from engine section (logOf (now (effects .entry)))) ⌝ }
     {
         if !self.is_for_us(from, engine, section) {

@@ -1,9 +1,9 @@
 // A signal box: the keeper of its sections and the home of its engines, as one function from an input to effects.
 mod emit;
-mod signal_box;
-mod keeping;
 mod handle;
+mod keeping;
 mod second;
+mod signal_box;
 
 pub use emit::home_of;
 pub use signal_box::Input;
