@@ -109,14 +109,14 @@ passedTo x e engines s change holder.Nobody = (x, event.PassedOver)
 passedTo x e engines s change (holder.Engine y) =
     cond (eqb (y .0) (e .0)) (knowing x known.Had, event.Had e s) (beginAt x e engines s change y)
 
--- a change is of the section that is waited for, and a later one than the wait's
-abbrev pub changed : State → Engine → ℕ → Section → Holder → ℕ → Option Wait → State × Event
-changed x e engines s h change None = (x, event.PassedOver)
-changed x e engines s h change (Some w) =
-    cond (sameSection (w .section) s && ltb (w .change) change) (passedTo x e engines s change h) (x, event.PassedOver)
+-- a later change of the section that is waited for
+abbrev pub isLater : Option Wait → Section → ℕ → Bool
+isLater None s change = false
+isLater (Some w) s change = sameSection (w .section) s && ltb (w .change) change
 
+-- a section has passed to a holder, by a change
 unfoldable pub changeAt : State → Engine → ℕ → Section → Holder → ℕ → State × Event
-changeAt x e engines s h change = changed x e engines s h change (waitOf x)
+changeAt x e engines s h change = cond (isLater (waitOf x) s change) (passedTo x e engines s change h) (x, event.PassedOver)
 
 abbrev pub gaveUpBy : State → Result Call Refusal → State × Event
 gaveUpBy x (Err r) = refuse x r

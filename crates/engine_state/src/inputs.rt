@@ -1,6 +1,8 @@
 // What answers, changes and signs make of one engine, and the event that each gives.
 ghost use mathlib.Core.Path.{_≡_};
-ghost use Rattle.engine_state.specs.Inputs.{refusedFor, isEngine, beginAt, takenBy, endedBy, awaited, answerTo, answerAt, changeAt, foundAt, signAt};
+ghost use Rattle.engine_state.specs.Inputs.{refusedFor, isEngine, beginAt, takenBy, endedBy, awaited, answerTo, answerAt, isLater, passedTo, changeAt, foundAt, listened, signAt};
+ghost use Rattle.engine_state.specs.Calls.{waitOf};
+ghost use Rattle.signs.specs.Signs.{listenOf};
 use crate::places::is_same;
 use crate::state::Event;
 use crate::state::Known;
@@ -163,6 +165,38 @@ impl State {
         }
     }
 
+    // Is it a later change of the section that is waited for.
+    fn is_later(self, section: Section, change: u32) -> bool
+        ensures { λ r. ⌜ r ≡ isLater (waitOf self) section change ⌝ }
+    {
+        match self.wait() {
+            None => false,
+            Some(wait) => is_same(wait.section, section) && wait.change < change,
+        }
+    }
+
+    // What is waited for has passed to `holder`.
+    fn passed_to(
+        self,
+        engine: Engine,
+        engines: u8,
+        section: Section,
+        change: u32,
+        holder: Holder,
+    ) -> (State, Event)
+        ensures { λ r. ⌜ r ≡ passedTo self engine engines section change holder ⌝ }
+    {
+        match holder {
+            Holder::Nobody => (self, Event::PassedOver),
+            Holder::Engine(whom) => {
+                if whom.0 == engine.0 {
+                    return (self.knowing(Known::Had), Event::Had { engine, section });
+                }
+                self.begin(engine, engines, section, change, whom)
+            }
+        }
+    }
+
     // A section has passed to `holder` by its change `change`.
     pub fn change_at(
         self,
@@ -174,20 +208,10 @@ impl State {
     ) -> (State, Event)
         ensures { λ r. ⌜ r ≡ changeAt self engine engines section holder change ⌝ }
     {
-        let Some(wait) = self.wait() else {
-            return (self, Event::PassedOver);
-        };
-        if !is_same(wait.section, section) || wait.change >= change {
-            return (self, Event::PassedOver);
-        }
-        match holder {
-            Holder::Nobody => (self, Event::PassedOver),
-            Holder::Engine(whom) => {
-                if whom.0 == engine.0 {
-                    return (self.knowing(Known::Had), Event::Had { engine, section });
-                }
-                self.begin(engine, engines, section, change, whom)
-            }
+        if self.is_later(section, change) {
+            self.passed_to(engine, engines, section, change, holder)
+        } else {
+            (self, Event::PassedOver)
         }
     }
 
@@ -201,13 +225,17 @@ impl State {
         }
     }
 
-    // The sign that `by` shows, told to the engine as one that waits since its beginning `count`.
-    pub fn sign(self, engine: Engine, count: u32, by: Engine, sign: u64) -> (State, Event)
-        ensures { λ r. ⌜ r ≡ signAt self engine count by sign ⌝ }
+    // What comes of a sign while the wait for a section stands.
+    fn listened(
+        self,
+        engine: Engine,
+        section: Section,
+        count: u32,
+        by: Engine,
+        sign: u64,
+    ) -> (State, Event)
+        ensures { λ r. ⌜ r ≡ listened self engine section (listenOf (self .signs) (by .0) count sign) ⌝ }
     {
-        let Some(wait) = self.wait() else {
-            return (self, Event::Refused(Refusal::Stale));
-        };
         match self.signs.listen(by.0, count, sign) {
             Err(refusal) => (self, Event::Refused(refused_for(refusal))),
             Ok((_, signs::Heard::PassedOver)) => (self, Event::PassedOver),
@@ -215,7 +243,17 @@ impl State {
                 self.heard(sign),
                 Event::Heard { engine, sign },
             ),
-            Ok((_, signs::Heard::Found)) => self.found(engine, wait.section),
+            Ok((_, signs::Heard::Found)) => self.found(engine, section),
+        }
+    }
+
+    // The sign that `by` shows, told to the engine as one that waits since its beginning `count`.
+    pub fn sign(self, engine: Engine, count: u32, by: Engine, sign: u64) -> (State, Event)
+        ensures { λ r. ⌜ r ≡ signAt self engine count by sign ⌝ }
+    {
+        match self.wait() {
+            None => (self, Event::Refused(Refusal::Stale)),
+            Some(wait) => self.listened(engine, wait.section, count, by, sign),
         }
     }
 }

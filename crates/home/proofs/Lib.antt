@@ -1,2 +1,1 @@
-pub mod Ours
 pub mod Lowest

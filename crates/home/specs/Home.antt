@@ -1,4 +1,5 @@
 -- The engines of a box, read and changed at one of them. Assumes nothing.
+use mathlib.Core.Path.{_≡_}
 use mathlib.Core.Bool.{Bool, true, false, cond, _&&_}
 use Prim.Native.Nat.{ℕ, _%_}
 use lib.Dec.{eqb, ltb}
@@ -55,8 +56,10 @@ with h e x = record {
   notes = h .notes;
 }
 
-abbrev pub stateOf : Home → Engine → Result State Refusal
-stateOf h e = cond (isOurs h e) (Ok (at h e)) (Err refusal.Malformed)
+-- what is read of an engine: its state, if it is ours
+abbrev pub IsState : Home → Engine → Result State Refusal → Type 0
+IsState h e (Ok x) = (isOurs h e ≡ true) × (x ≡ at h e)
+IsState h e (Err r) = (isOurs h e ≡ false) × (r ≡ refusal.Malformed)
 
 -- a change of one of ours; whatever isn't ours is passed over
 abbrev pub ifOurs : Home → Engine → (State → State) → Home

@@ -1,7 +1,7 @@
 // The engines of one box: each input changes one of them, or is turned away.
 ghost use mathlib.Core.Path.{_≡_};
 ghost use Prim.Native.Nat.{_<_};
-ghost use Rattle.home.specs.Home.{freshHome, isHome, isOurs, stateOf, with, madeOf, heardOf, applyOf};
+ghost use Rattle.home.specs.Home.{freshHome, isHome, isOurs, IsState, with, madeOf, heardOf, applyOf};
 use engine_state::Asked;
 use engine_state::Known;
 use engine_state::Mode;
@@ -71,7 +71,7 @@ impl Home {
 
     // The engine, if it is ours.
     pub fn state(&self, engine: Engine) -> Result<State, Refusal>
-        ensures { λ r. ⌜ r ≡ stateOf (now (self .entry)) engine ⌝ }
+        ensures { λ r. ⌜ IsState (now (self .entry)) engine r ⌝ }
     {
         if !self.is_ours(engine) {
             return Err(Refusal::Malformed);

@@ -3,22 +3,10 @@ use borrow.Author.Needs.{needs}
 use Rattle.engine_state.specs.Inputs.{changeAt}
 use Rattle.engine_state.proofs.state.State.change_at.Needs as need
 
-pub returns-in-rest : need.returns-in-rest
+pub returns-then-is-later : need.returns-then-is-later
 unfolding changeAt
-returns-in-rest c = search needs
+returns-then-is-later c = search needs
 
-pub returns-then-not-is-same : need.returns-then-not-is-same
+pub returns-else-is-later : need.returns-else-is-later
 unfolding changeAt
-returns-then-not-is-same c = search needs
-
-pub returns-then-whom-engine : need.returns-then-whom-engine
-unfolding changeAt
-returns-then-whom-engine c = search needs
-
-pub returns-in-Nobody : need.returns-in-Nobody
-unfolding changeAt
-returns-in-Nobody c = search needs
-
-pub returns-else-whom-engine : need.returns-else-whom-engine
-unfolding changeAt
-returns-else-whom-engine c = search needs
+returns-else-is-later c = search needs

@@ -3,22 +3,10 @@ use borrow.Author.Needs.{needs}
 use Rattle.engine_state.specs.Inputs.{signAt}
 use Rattle.engine_state.proofs.state.State.sign.Needs as need
 
-pub returns-in-rest : need.returns-in-rest
+pub returns-in-None : need.returns-in-None
 unfolding signAt
-returns-in-rest c = search needs
+returns-in-None c = search needs
 
-pub returns-in-Err : need.returns-in-Err
+pub returns-in-Some : need.returns-in-Some
 unfolding signAt
-returns-in-Err c = search needs
-
-pub returns-in-Ok-rest-PassedOver : need.returns-in-Ok-rest-PassedOver
-unfolding signAt
-returns-in-Ok-rest-PassedOver c = search needs
-
-pub returns-in-Ok-rest-TellOn : need.returns-in-Ok-rest-TellOn
-unfolding signAt
-returns-in-Ok-rest-TellOn c = search needs
-
-pub returns-in-Ok-rest-Found : need.returns-in-Ok-rest-Found
-unfolding signAt
-returns-in-Ok-rest-Found c = search needs
+returns-in-Some c = search needs
