@@ -1,6 +1,6 @@
 // One engine at its home: its calls, its waits, what it holds, and what comes of each input, by value.
 mod inputs;
-pub mod places;
+mod places;
 mod state;
 
 pub use places::Places;

@@ -1,8 +1,8 @@
 // Which box of which yard a home is.
 ghost use mathlib.Core.Path.{_≡_};
+use crate::home::Home;
 use messages::BoxNumber;
 use messages::Yard;
-use crate::home::Home;
 
 impl Home {
     pub fn yard(&self) -> Yard

@@ -24,15 +24,17 @@ module _ (y : Yard) (b : ℕ) where
   any-found [] t = absurd (both-ways false refl t)
   any-found (x ∷ xs) t =
       elim (or-cases (eqb (homeOf y x) b) (homeOfAny y b xs) t) [
-          inl q ↦ (x, or-left (eqb x x) (isIn x xs) (eq-eqb x x refl), eqb-true (homeOf y x) b q)
-        | inr q ↦ let f = any-found xs q in (f .0, or-right (eqb x (f .0)) (isIn (f .0) xs) (f .1), f .2) ]
+        | inl q ↦ (x, or-left (eqb x x) (isIn x xs) (eq-eqb x x refl), eqb-true (homeOf y x) b q)
+        | inr q ↦ let f = any-found xs q in (f .0, or-right (eqb x (f .0)) (isIn (f .0) xs) (f .1), f .2)
+      ]
 
   any-told : (es : List ℕ) (e : ℕ) → isIn e es ≡ true → homeOf y e ≡ b → homeOfAny y b es ≡ true
   any-told [] e w q = absurd (both-ways false refl w)
   any-told (x ∷ xs) e w q =
       elim (or-cases (eqb x e) (isIn e xs) w) [
-          inl s ↦ or-left (eqb (homeOf y x) b) (homeOfAny y b xs) (eq-eqb (homeOf y x) b (ap (homeOf y) (eqb-true x e s) ∙ q))
-        | inr s ↦ or-right (eqb (homeOf y x) b) (homeOfAny y b xs) (any-told xs e s q) ]
+        | inl s ↦ or-left (eqb (homeOf y x) b) (homeOfAny y b xs) (eq-eqb (homeOf y x) b (ap (homeOf y) (eqb-true x e s) ∙ q))
+        | inr s ↦ or-right (eqb (homeOf y x) b) (homeOfAny y b xs) (any-told xs e s q)
+      ]
 
   pub concerns : (t : Table) (place : ℕ) → Concerns y b t place (toldOf y b t place)
   concerns t place = (found, told)
@@ -40,8 +42,10 @@ module _ (y : Yard) (b : ℕ) where
       found : toldOf y b t place ≡ true → Concerned y b t place
       found r =
           elim (or-cases (homeOfHolder y b (holder-of t place)) (homeOfAny y b (queue-of t place)) r) [
-              inl q ↦ let f = holder-found (holder-of t place) q in (f .0, inl (f .1), f .2)
-            | inr q ↦ let f = any-found (queue-of t place) q in (f .0, inr (f .1), f .2) ]
+            | inl q ↦ let f = holder-found (holder-of t place) q in (f .0, inl (f .1), f .2)
+            | inr q ↦ let f = any-found (queue-of t place) q in (f .0, inr (f .1), f .2)
+          ]
+
       told : Concerned y b t place → toldOf y b t place ≡ true
       told (e, inl q, r) = or-left (homeOfHolder y b (holder-of t place)) (homeOfAny y b (queue-of t place)) (holder-told (holder-of t place) e q r)
       told (e, inr q, r) = or-right (homeOfHolder y b (holder-of t place)) (homeOfAny y b (queue-of t place)) (any-told (queue-of t place) e q r)

@@ -1,2 +1,3 @@
-pub mod Promises
+pub mod OneCall
 pub mod Concern
+pub mod Runs

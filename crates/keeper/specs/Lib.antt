@@ -3,3 +3,4 @@ pub mod Model
 pub mod Calls
 pub mod Promise
 pub mod Homes
+pub mod Runs

@@ -57,11 +57,11 @@ impl Keeper {
         requires { ⌜ call .engine .0 < 64 ⌝ }
         ensures { λ r. ⌜ (modelOf (now (self .exit)), r) ≡ triedOf (modelOf (now (self .entry))) call ⌝ }
     {
+        let engine = call.engine.0 as usize;
+        let last = self.calls[engine];
         let result = ask(&mut self.sections, call);
         let answer = answer_at(&self.sections, call.section.place, result);
         let verdict = words::verdict(answer, result);
-        let engine = call.engine.0 as usize;
-        let last = self.calls[engine];
         self.calls[engine] = used(last, call.number, verdict);
         verdict
     }

@@ -1,38 +1,46 @@
 // Which homes are told of a change of a section.
 ghost use mathlib.Core.Path.{_≡_};
-ghost use Prim.Native.Nat.{_%_};
+ghost use lib.Dec.{eqb};
 ghost use Rattle.keeper.specs.Model.{modelOf};
 ghost use Rattle.keeper.specs.Homes.{Concerns, homeOf, homeOfAny, homeOfHolder, toldOf};
-ghost use Rattle.sections.specs.Table.{holder-of, queue-of};
+ghost use Rattle.sections.specs.Model.{tableOf};
 use crate::Keeper;
 use messages::BoxNumber;
 use messages::Yard;
 use sections::Holder;
+use sections::Sections;
 
-fn home(yard: Yard, engine: u8) -> u8
-    ensures { λ r. ⌜ r ≡ homeOf yard engine ⌝ }
+fn is_home(yard: Yard, number: BoxNumber, engine: u8) -> bool
+    ensures { λ r. ⌜ r ≡ eqb (homeOf yard engine) (number .0) ⌝ }
 {
-    engine % yard.boxes()
+    engine % yard.boxes() == number.0
 }
 
-fn is_holders_home(yard: Yard, number: u8, holder: Holder) -> bool
-    ensures { λ r. ⌜ r ≡ homeOfHolder yard number holder ⌝ }
+fn is_home_of_holder(yard: Yard, number: BoxNumber, holder: Holder) -> bool
+    ensures { λ r. ⌜ r ≡ homeOfHolder yard (number .0) holder ⌝ }
 {
     match holder {
         Holder::Free => false,
-        Holder::Engine(engine) => home(yard, engine) == number,
+        Holder::Engine(engine) => is_home(yard, number, engine),
     }
 }
 
-fn is_home_of_any(yard: Yard, number: u8, engines: &[u8]) -> bool
-    ensures { λ r. ⌜ r ≡ homeOfAny yard number (now (engines .entry)) ⌝ }
+fn is_home_of_any(yard: Yard, number: BoxNumber, queue: &[u8]) -> bool
+    ensures { λ r. ⌜ r ≡ homeOfAny yard (number .0) (now (queue .entry)) ⌝ }
 {
-    for engine in engines {
-        if home(yard, *engine) == number {
+    for engine in queue {
+        if is_home(yard, number, *engine) {
             return true;
         }
     }
     false
+}
+
+fn is_told(yard: Yard, number: BoxNumber, sections: &Sections, place: u8) -> bool
+    ensures { λ r. ⌜ r ≡ toldOf yard (number .0) (tableOf (now (sections .entry))) place ⌝ }
+{
+    is_home_of_holder(yard, number, sections.holder(place))
+        || is_home_of_any(yard, number, sections.queue(place))
 }
 
 impl Keeper {
@@ -41,6 +49,6 @@ impl Keeper {
         ensures answer { λ r. ⌜ r ≡ toldOf yard (number .0) (modelOf (now (self .entry)) .table) place ⌝ }
         ensures concerns { λ r. ⌜ Concerns yard (number .0) (modelOf (now (self .entry)) .table) place r ⌝ }
     {
-        is_holders_home(yard, number.0, self.sections.holder(place)) || is_home_of_any(yard, number.0, self.sections.queue(place))
+        is_told(yard, number, &self.sections, place)
     }
 }

@@ -5,6 +5,7 @@ ghost use lib.ListN.{length};
 mod asking;
 mod calls;
 mod homes;
+pub mod promises;
 mod queries;
 mod words;
 

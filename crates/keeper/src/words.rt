@@ -1,6 +1,6 @@
 // Messages' words for what the sections answer.
 ghost use mathlib.Core.Path.{_≡_};
-ghost use Rattle.keeper.specs.Words.{doneOf, holderOf, replyOf, verdictOf, SAME-NUMBERS};
+ghost use Rattle.keeper.specs.Words.{holderOf, replyOf, verdictOf};
 use crate::Answer;
 use crate::Verdict;
 use messages::Engine;
@@ -42,11 +42,4 @@ pub(crate) fn verdict(answer: Answer, result: Result<Done, sections::Refusal>) -
         Err(sections::Refusal::Mismatch) => Verdict::Refused(Refusal::Mismatch, answer),
         Err(sections::Refusal::AtLimit) => Verdict::AtLimit(answer),
     }
-}
-
-// Sections' numbers for refusals, answers and holders are the ones that messages write.
-pub fn same_numbers() -> u8
-    ensures { λ _. ⌜ SAME-NUMBERS ⌝ }
-{
-    0
 }

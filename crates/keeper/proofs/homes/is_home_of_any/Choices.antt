@@ -5,4 +5,4 @@ use Rattle.keeper.specs.Homes.{homeOfAny}
 use Rattle.keeper.proofs.homes.is_home_of_any.Given as given
 
 abbrev pub Inv-loop-engine : given.InvT-loop-engine
-Inv-loop-engine l = homeOfAny (l .yard) (l .number) (drop (l .engine-index) (l .engines)) ≡ homeOfAny (l .yard) (l .number) (l .engines)
+Inv-loop-engine l = homeOfAny (l .yard) (l .number .0) (drop (l .engine-index) (l .queue)) ≡ homeOfAny (l .yard) (l .number .0) (l .queue)
