@@ -3,3 +3,4 @@ pub mod Emit
 pub mod Model
 pub mod Keeping
 pub mod Handle
+pub mod Opening

@@ -2,6 +2,7 @@
 mod emit;
 mod handle;
 mod keeping;
+mod opening;
 mod second;
 mod signal_box;
 
