@@ -1,7 +1,7 @@
 -- What is asked of a home, by one of its engines. Assumes nothing.
 use mathlib.Core.Bool.{Bool, true, false, cond, _&&_}
-use Prim.Native.Nat.{ℕ, zero, suc}
-use lib.Dec.{ltb}
+use Prim.Native.Nat.{ℕ, zero, suc, _+_}
+use lib.Dec.{eqb, ltb}
 use lib.ListN.{getD}
 use Rattle.std.specs.declared.option.Option.{Option}
 use Rattle.std.specs.declared.option.Option.the-variants.{Some, None}
@@ -55,3 +55,10 @@ lowestBelow f (suc n) = orElse (lowestBelow f n) (cond (f (engine n)) (Some (eng
 -- the lowest of ours that holds a section
 abbrev pub holderOf : Home → Section → Option Engine
 holderOf h s = lowestBelow (λ e. holdsAt h e s) 64
+
+-- a call of one of ours has the number after the last one used with that box
+abbrev pub isNext : Home → Call → Bool
+isNext h c =
+    cond (isOurs h (c .engine))
+    (ltb (c .section .keeper .0) 16 && eqb (getD (at h (c .engine) .stored .used) (c .section .keeper .0) 0 + 1) (c .number))
+    false

@@ -2,6 +2,7 @@
 mod home;
 mod inputs;
 mod queries;
+mod shape;
 
 pub use home::Home;
 pub use home::Note;

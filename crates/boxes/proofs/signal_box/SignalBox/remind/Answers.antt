@@ -1,0 +1,16 @@
+-- Each turn is one engine more.
+use mathlib.Core.Path.{refl}
+use Rattle.home.specs.Queries.{engine}
+use Rattle.boxes.specs.Log.{logOf, each}
+use Rattle.boxes.specs.Handle.{reminderFor}
+use Rattle.boxes.proofs.Each.{turn}
+use Rattle.boxes.proofs.signal_box.SignalBox.remind.Needs as need
+
+pub loop-e-holds : need.loop-e-holds
+unfolding each
+loop-e-holds c = refl
+
+pub loop-e-again : need.loop-e-again
+loop-e-again c =
+    turn (λ n. reminderFor (c .args .self .now .home) (engine n)) (c .loop-e .e) (logOf (c .args .effects .now)) (logOf (c .loop-e .effects))
+    (logOf (c .remind .last .effects)) (c .loop-e .inv) (c .in-Continue-remind .ensures tt)
