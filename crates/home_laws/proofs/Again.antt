@@ -37,8 +37,25 @@ use Rattle.engine_state.specs.Places.{sameSection}
 use Rattle.engine_state.specs.State.{heard, knowing, nextNumber}
 use Rattle.engine_state.specs.Calls.{openOf, waitOf, callOf}
 use Rattle.engine_state.specs.Inputs.{
-  isEngine, begunWith, beginAt, waitsFor, refusedBy, takenBy, endedBy, answerTo, thatCall, awaited, answered, answerAt, passedTo, isLater, changeAt, gaveUpBy,
-  listened, heardWaiting, signAt
+  isEngine,
+  begunWith,
+  beginAt,
+  waitsFor,
+  refusedBy,
+  takenBy,
+  endedBy,
+  answerTo,
+  thatCall,
+  awaited,
+  answered,
+  answerAt,
+  passedTo,
+  isLater,
+  changeAt,
+  gaveUpBy,
+  listened,
+  heardWaiting,
+  signAt,
 }
 use Rattle.home_laws.specs.Told.{Became}
 use Rattle.home_laws.specs.Again.{Ordered, ORDERED-KEPT, Once, SAME-AGAIN}
@@ -183,10 +200,12 @@ tellable g by count sign = by-test (ltb (g .shown) sign) refl
     hear true true is = (refl, ltb-true (g .shown) sign is)
     hear true false is = tt
     hear false t is = tt
+
     find : (w t : Bool) → Tellable g sign (cond w (cond t (Ok (idle g, Found)) (Ok (g, PassedOver))) (Err Stale))
     find true true = tt
     find true false = tt
     find false t = tt
+
     by-test : (t : Bool) → ltb (g .shown) sign ≡ t → Tellable g sign (cond t (hearOf g by count sign) (findOf g by count sign))
     by-test true is = hear (waitsBy g by count) (ltb (g .shown) sign) refl
     by-test false is = find (waitsBy g by count) (eqb sign (g .own) && eqb (g .shown) (g .own))

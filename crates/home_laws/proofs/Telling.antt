@@ -166,6 +166,7 @@ listen-rises g by count sign = by-test (ltb (g .shown) sign) refl
     heard-rises true true is = ltb-true (g .shown) sign is
     heard-rises true false is = tt
     heard-rises false t is = tt
+
     by-test : (t : Bool) → ltb (g .shown) sign ≡ t → Rises g (cond t (hearOf g by count sign) (findOf g by count sign))
     by-test true is = heard-rises (waitsBy g by count) (ltb (g .shown) sign) refl
     by-test false is = found-rises g (waitsBy g by count) (eqb sign (g .own) && eqb (g .shown) (g .own))

@@ -1,3 +1,5 @@
 pub mod Told
 pub mod Steps
 pub mod Again
+pub mod Held
+pub mod Puts
