@@ -7,13 +7,11 @@ const MESSAGES: usize = 1_000_000;
 const ROUNDS: usize = 11;
 const LONGEST: usize = 21;
 
+// Both codecs stand behind the same C signature, and are called through a pointer that the compiler does not see through.
+type Codec = unsafe extern "C" fn(boxes: u8, engines: u8, bytes: *const u8, length: usize, out: *mut u8, room: usize) -> usize;
+
 unsafe extern "C" {
     fn recode(boxes: u8, engines: u8, bytes: *const u8, length: usize, out: *mut u8, room: usize) -> usize;
-}
-
-#[inline(never)]
-fn proved(boxes: u8, engines: u8, bytes: &[u8], out: &mut [u8]) -> usize {
-    unsafe { recode(boxes, engines, bytes.as_ptr(), bytes.len(), out.as_mut_ptr(), out.len()) }
 }
 
 mod plain {
@@ -199,8 +197,8 @@ mod plain {
     }
 }
 
-#[inline(never)]
-fn unproved(boxes: u8, engines: u8, bytes: &[u8], out: &mut [u8]) -> usize {
+unsafe extern "C" fn plain_recode(boxes: u8, engines: u8, bytes: *const u8, length: usize, out: *mut u8, room: usize) -> usize {
+    let (bytes, out) = unsafe { (std::slice::from_raw_parts(bytes, length), std::slice::from_raw_parts_mut(out, room)) };
     let Some(yard) = plain::Yard::new(boxes, engines) else { return 0 };
     let Some(message) = yard.decode(bytes) else { return 0 };
     let encoded = plain::encode(message);
@@ -278,12 +276,14 @@ fn messages() -> Messages {
     Messages { bytes, ends }
 }
 
-fn pass(all: &Messages, codec: fn(u8, u8, &[u8], &mut [u8]) -> usize) -> (Duration, u64) {
+fn pass(all: &Messages, codec: Codec) -> (Duration, u64) {
+    let codec = black_box(codec);
     let mut out = [0u8; LONGEST];
     let (mut start, mut sum) = (0, 0u64);
     let begun = Instant::now();
     for &end in &all.ends {
-        let length = codec(black_box(16), black_box(64), &all.bytes[start..end], &mut out);
+        let bytes = &all.bytes[start..end];
+        let length = unsafe { codec(16, 64, bytes.as_ptr(), bytes.len(), out.as_mut_ptr(), out.len()) };
         assert_eq!(length, end - start);
         sum = sum.wrapping_mul(31).wrapping_add(u64::from(out[length - 1]));
         start = end;
@@ -295,12 +295,12 @@ fn main() {
     let all = messages();
     match std::env::args().nth(1).as_deref() {
         Some("none") => println!("{}", all.bytes.len()),
-        Some("plain") => println!("{}", pass(&all, unproved).1),
-        Some("proved") => println!("{}", pass(&all, proved).1),
+        Some("plain") => println!("{}", pass(&all, plain_recode).1),
+        Some("proved") => println!("{}", pass(&all, recode).1),
         _ => {
             let (mut with, mut without) = (Duration::MAX, Duration::MAX);
             for _ in 0..ROUNDS {
-                let (plain, proved) = (pass(&all, unproved), pass(&all, proved));
+                let (plain, proved) = (pass(&all, plain_recode), pass(&all, recode));
                 assert_eq!(plain.1, proved.1);
                 (without, with) = (without.min(plain.0), with.min(proved.0));
             }

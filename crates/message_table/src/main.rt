@@ -62,11 +62,17 @@ fn say_message(rt: &LibcRuntime, yard: Yard, bytes: &[u8]) -> Result<(), AnyErro
 
 fn say_record(rt: &LibcRuntime, yard: Yard, bytes: &[u8]) -> Result<(), AnyError> {
     match first_record(yard, bytes) {
-        First::Whole { record, length: taken } => {
+        First::Whole {
+            record,
+            length: taken,
+        } => {
             let again = encode_record(record);
             let same = again.as_slice() == bytes;
             let short = cuts_short(yard, bytes);
-            println!(rt, "record: of {taken} bytes, the same again {same}, cuts short {short}")?;
+            println!(
+                rt,
+                "record: of {taken} bytes, the same again {same}, cuts short {short}"
+            )?;
         }
         First::Cut => println!(rt, "record: cut")?,
         First::Damaged => println!(rt, "record: damaged")?,
