@@ -36,8 +36,8 @@ isNew l e = ltb (e .engine) 64 && knownOf (e .wait) && isMissing (getD (l .lines
 abbrev pub listed : Listing → Entry → Listing
 listed l e =
     record {
-        engines = with (l .engines) (e .engine) (record { wait = e .wait; count = 0; shown = e .shown; own = e .own });
-        lines = set (l .lines) (e .engine) Read
+      engines = with (l .engines) (e .engine) (record { wait = e .wait; count = 0; shown = e .shown; own = e .own });
+      lines = set (l .lines) (e .engine) Read;
     }
 
 -- a bad line is refused by its number, and nothing changes

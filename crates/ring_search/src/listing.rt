@@ -44,7 +44,10 @@ impl Listing {
     pub fn new() -> Listing
         ensures { λ r. ⌜ r ≡ emptyOf ⌝ }
     {
-        Listing { engines: Engines::new(), lines: [Line::Missing; 64] }
+        Listing {
+            engines: Engines::new(),
+            lines: [Line::Missing; 64],
+        }
     }
 
     pub fn engines(&self) -> Engines
@@ -65,7 +68,12 @@ impl Listing {
         if let Line::Read = before {
             return Err(line);
         }
-        let engine = Engine { wait: entry.wait, count: 0, shown: entry.shown, own: entry.own };
+        let engine = Engine {
+            wait: entry.wait,
+            count: 0,
+            shown: entry.shown,
+            own: entry.own,
+        };
         self.lines[i] = Line::Read;
         let _ = self.engines.put(entry.engine, engine);
         Ok(())
@@ -98,9 +106,14 @@ fn read_wait(text: &str) -> Option<Wait> {
 }
 
 // The four words of a line, one blank between them.
-pub fn read_entry(text: &str) -> Option<Entry> {
+fn read_entry(text: &str) -> Option<Entry> {
     let (first, rest) = text.split_once(' ')?;
     let (second, rest) = rest.split_once(' ')?;
     let (third, fourth) = rest.split_once(' ')?;
-    Some(Entry { engine: engine_number(first)?, wait: read_wait(second)?, shown: number(third)?, own: number(fourth)? })
+    Some(Entry {
+        engine: engine_number(first)?,
+        wait: read_wait(second)?,
+        shown: number(third)?,
+        own: number(fourth)?,
+    })
 }
