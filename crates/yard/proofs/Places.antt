@@ -167,7 +167,7 @@ module _ {engines : ℕ} {y : Yard} (p : Placed engines y) where
       | inr d ↦ absurd (let v = p .view i j s m e in p .kept s .turn i m j q (v .3 q) (omega arith) (v .1) .0 h) ]
 
 
-  busy-numbered : (i s : ℕ) → About s (mode y i) → i < engines
+  pub busy-numbered : (i s : ℕ) → About s (mode y i) → i < engines
   busy-numbered i s a = elim (p .numbered i) [ inl e ↦ absurd (rw e at a) | inr l ↦ l ]
 
   -- engine by engine, before what became of the sections
@@ -189,7 +189,7 @@ module _ {engines : ℕ} {y : Yard} (p : Placed engines y) where
       go (found j t g n) v a = rw (g .1 .1) at a
 
   -- who waits, as its home has it, stood in the queue or had the section, and its view was true since it came
-  viewed : {act : Act} {i j s m : ℕ} {e : Engine} → Did engines y act i e → e .mode ≡ waiting j s m →
+  pub viewed : {act : Act} {i j s m : ℕ} {e : Engine} → Did engines y act i e → e .mode ≡ waiting j s m →
       (Queued y i s ⊎ (holder y s ≡ by i)) × ((mode y i ≡ leaving s → ⊥) × (mode y i ≡ freeing s → ⊥)) ×
       ((i ≡ j → ⊥) × (y .section s .past m ≡ by j) × (m ≤ y .section s .change) × (Queued y i s → y .section s .came i ≤ m))
   viewed {i} {j} {s} {m} nothing e = (p .stands i j s m e, (waiting≢leaving e, waiting≢freeing e), p .view i j s m e)
@@ -209,7 +209,7 @@ module _ {engines : ℕ} {y : Yard} (p : Placed engines y) where
   viewed {i} {j} {s} {m} (heard k v g) e = (p .stands i j s m e, (waiting≢leaving e, waiting≢freeing e), p .view i j s m e)
   viewed (found k t g n) e = absurd (waiting≢leaving e refl)
 
-  stand-after : {i s : ℕ} {x : Section} → Moved engines y s x → (mode y i ≡ leaving s → ⊥) × (mode y i ≡ freeing s → ⊥) →
+  pub stand-after : {i s : ℕ} {x : Section} → Moved engines y s x → (mode y i ≡ leaving s → ⊥) × (mode y i ≡ freeing s → ⊥) →
       Queued y i s ⊎ (holder y s ≡ by i) → List·Memᴰ i (x .queue) ⊎ (x .holder ≡ by i)
   stand-after d n (inl q) = elim (in-after d q) [ inl m ↦ inl m | inr r ↦ elim r [ inl h ↦ inr (h .0) | inr l ↦ absurd (n .0 l) ] ]
   stand-after d n (inr h) = elim (holder-after d h) [ inl k ↦ inr k | inr f ↦ absurd (n .1 f) ]

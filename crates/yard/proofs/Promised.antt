@@ -5,8 +5,9 @@ use mathlib.Core.Logic.{_⊎_, inl, inr}
 use mathlib.Core.List.{List, [], _∷_, List·Memᴰ, List·Memᴰ·head, List·Memᴰ·tail}
 use Prim.Native.Nat.{ℕ, _%_, _<_, _≤_}
 use native.Mathlib.Omega.{arith}
-use Rattle.yard.specs.Yard.{Holder, free, by, Section, asking, Engine, Yard, start, holder, mode, shown, own, count, Queued, Told, first, rest, Act, asks, frees, takes, joins, passes, leaves, begins, tells, hears, finds, May, after, Run, still, then, Reach, Distinct}
-use Rattle.yard.specs.Order.{OneAtATime, OnePlace, SomebodyHas, FirstGets, Upto, NoOvertaking, Behind, OwnDiffer, ShownRises, Taken, OnlyTaken}
+use Rattle.std.proofs.shelf.Tests.{cases-eq}
+use Rattle.yard.specs.Yard.{Holder, free, by, Section, asking, waiting, Engine, Yard, start, holder, mode, shown, own, count, Queued, Told, first, rest, Act, asks, frees, takes, joins, passes, leaves, begins, tells, hears, finds, May, after, Run, still, then, Reach, Distinct}
+use Rattle.yard.specs.Order.{OneAtATime, OnePlace, SomebodyHas, FirstGets, Upto, from, past, NoOvertaking, Behind, TurnHasCome, OwnDiffer, ShownRises, Taken, OnlyTaken}
 use Rattle.yard.proofs.Queues.{upto-end, upto-without, at-put}
 use Rattle.yard.proofs.InTurn.{by≢free, upto-rest}
 use Rattle.yard.proofs.Views.{Moved, unmoved, was-taken, was-joined, was-passed, was-left, moved, Did, nothing, asked, freed, began, heard, found, did, told-was}
@@ -56,6 +57,21 @@ no-overtaking engines y r a g i k s m u = go (moved engines y a g s) u
 
 pub behind : Behind
 behind engines y r i s n h = sound r .places .kept s .turn i n h
+
+upto-self : {i : ℕ} {q : List ℕ} → List·Memᴰ i q → Upto i i q
+upto-self (List·Memᴰ·head e) = from e (List·Memᴰ·head e)
+upto-self (List·Memᴰ·tail m) = past (upto-self m)
+
+pub turn-has-come : TurnHasCome
+turn-has-come engines y r i j s m n e lo hi h =
+    elim (p .stands i j s m e)
+    [ inr o ↦ o
+    | inl q ↦ elim (cases-eq n (y .section s .change))
+      [ inl d ↦ sym (p .kept s .now) ∙ (rw d at h)
+      | inr d ↦ absurd (let c = p .view i j s m e .3 q in p .kept s .turn i n i q (omega arith) (omega arith) h .1 (upto-self q)) ] ]
+  where
+    p : Placed engines y
+    p = sound r .places
 
 pub own-differ : OwnDiffer
 own-differ engines y r =

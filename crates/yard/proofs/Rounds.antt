@@ -78,16 +78,16 @@ module _ {engines : ℕ} {y : Yard} (w : Sound engines y) where
   end-is : {i : ℕ} → Live (mode y i) → (x : ℕ) → Relays y (own y i) 0 x → x ≡ i
   end-is l x (self e k) = own-one (w .places) (w .signs) k l e
 
-  pub real-at : {i j s : ℕ} → Finds y i j s → (is : List ℕ) × Ring y i is
+  pub real-at : {i j s : ℕ} → Finds y i j s → (is : List ℕ) × Ring y i (j ∷ is)
   real-at {i} {j} {s} f = go (b .dist) (b .chain)
     where
       b : Back i j s
       b = back f
-      go : (d : ℕ) → Relays y (own y i) d j → (is : List ℕ) × Ring y i is
+      go : (d : ℕ) → Relays y (own y i) d j → (is : List ℕ) × Ring y i (j ∷ is)
       go zero r = absurd (b .other (sym (end-is (b .live) j r)))
       go (suc d) r =
           let k = walk i (end-is (b .live)) d r in
-          (j ∷ k .0, (more (b .wait) (k .1), ((λ m. home m), k .2)))
+          (k .0, (more (b .wait) (k .1), ((λ m. home m), k .2)))
         where
           home : List·Memᴰ i (j ∷ walk i (end-is (b .live)) d r .0) → ⊥
           home (List·Memᴰ·head e) = b .other e

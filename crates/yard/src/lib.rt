@@ -1,7 +1,7 @@
 // What is promised of the whole yard, sections and signs together. Each function carries one promise in its contract, and does nothing.
 ghost use Rattle.yard.specs.Found.{Found, FoundInEveryRun};
 ghost use Rattle.yard.specs.Needed.{RingOfThree, TellingAfterFreeing, SignBeforeQueue, EarlierCount, KeptSign, OwnSignAgain};
-ghost use Rattle.yard.specs.Order.{OneAtATime, OnePlace, SomebodyHas, FirstGets, NoOvertaking, Behind, OwnDiffer, ShownRises, OnlyTaken};
+ghost use Rattle.yard.specs.Order.{OneAtATime, OnePlace, SomebodyHas, FirstGets, NoOvertaking, Behind, TurnHasCome, OwnDiffer, ShownRises, OnlyTaken};
 ghost use Rattle.yard.specs.Rings.{Real, Highest, Alone, Stays, StaysUntilFound, OldWords};
 
 // Whoever finds is, at that moment, in the queue of a section that the next one has, and so on round to itself.
@@ -73,6 +73,12 @@ pub fn nobody_overtakes()
 // Who had a section while another waited comes in again only behind it.
 pub fn comes_in_behind()
     ensures { λ _. ⌜ Behind ⌝ }
+{
+}
+
+// Who waits as of a change and had the section at a later one has it now.
+pub fn turn_has_come()
+    ensures { λ _. ⌜ TurnHasCome ⌝ }
 {
 }
 
