@@ -1,14 +1,14 @@
 -- Runs, act by act: one to a ring of three and its finding, and one for each rule that shows what comes of dropping it.
 -- Assumes nothing.
 use mathlib.Core.Path.{_≡_, refl, sym, _∙_}
-use mathlib.Core.Logic.{_⊎_, inl, inr}
+use mathlib.Core.Logic.{inl}
 use mathlib.Core.Bool.{Bool, true, false, cond}
 use mathlib.Core.List.{List, [], _∷_, List·Memᴰ, List·Memᴰ·head, List·Memᴰ·tail}
 use Prim.Native.Nat.{ℕ, suc, _<_}
 use native.Mathlib.Omega.{arith}
 use lib.Dec.{eqb}
 use Rattle.std.proofs.shelf.Tests.{false≢true, eq-eqb}
-use Rattle.yard.specs.Yard.{free, by, Section, waiting, Yard, Begun, Telling, start, count, shown, own, Queued, put, showing, atEngine, Act, asks, frees, takes, joins, passes, leaves, begins, tells, hears, finds, after, Run, still, then, WaitsFor, Along, one, more, Ring}
+use Rattle.yard.specs.Yard.{free, by, Section, waiting, Yard, Begun, Telling, start, count, shown, own, Queued, put, showing, atEngine, Act, asks, frees, takes, joins, passes, begins, tells, hears, after, Run, still, then, WaitsFor, Along, one, more, Ring}
 use Rattle.yard.specs.Found.{Heard}
 use Rattle.yard.specs.Needed.{Slip, tells-late, signs-early, takes-old-for-new, keeps-sign, shows-own-again, silent-once-freed, TellingAfterFreeing, SignBeforeQueue, EarlierCount, KeptSign, OwnSignAgain, RingOfThree}
 use Rattle.yard.proofs.Queues.{at-put}
@@ -93,10 +93,16 @@ three-run =
     (tells 2 1 0 0) (List·Memᴰ·head refl, refl)
 
 pub ring-of-three : RingOfThree
-ring-of-three =
-    (three-acts, three-end, three-run,
-    (more (0, List·Memᴰ·head refl, refl) (more (64, List·Memᴰ·head refl, refl) (one (1, List·Memᴰ·head refl, refl))), (absent-not-in 2 _ refl, (absent-not-in 0 _ refl, (absent-not-in 1 _ refl, tt)))),
-    refl, refl, refl, (List·Memᴰ·head refl, (1, refl), refl))
+ring-of-three = (
+  three-acts,
+  three-end,
+  three-run,
+  (more (0, List·Memᴰ·head refl, refl) (more (64, List·Memᴰ·head refl, refl) (one (1, List·Memᴰ·head refl, refl))), (absent-not-in 2 _ refl, (absent-not-in 0 _ refl, (absent-not-in 1 _ refl, tt)))),
+  refl,
+  refl,
+  refl,
+  (List·Memᴰ·head refl, (1, refl), refl),
+)
 
 abbrev late-acts : List Act
 late-acts = hears 0 1 4 ∷ tells 0 1 1 1 ∷ begins 0 1 1 1 3 ∷ joins 0 1 ∷ asks 0 1 ∷ passes 0 0 ∷ frees 0 0 ∷ begins 1 0 0 1 4 ∷ joins 1 0 ∷ asks 1 0 ∷ joins 2 0 ∷ asks 2 0 ∷ takes 1 1 ∷ asks 1 1 ∷ takes 0 0 ∷ asks 0 0 ∷ []
@@ -131,11 +137,17 @@ late-placed : Placed 3 (after late-end (tells 1 1 0 0))
 late-placed = placed-told (sound (late-acts, late-run) .places) _ _
 
 pub telling-after-freeing : TellingAfterFreeing
-telling-after-freeing =
-    (after late-end (tells 1 1 0 0),
-    record { before = late-acts; here = late-end; come = late-run; slipped = after late-end (tells 1 1 0 0); slip = late-slip; later = []; gone = still },
-    (1, 0, 0, (List·Memᴰ·head refl, (1, refl), refl),
-    no-ring late-placed 1 2 (0, List·Memᴰ·head refl, refl) (λ s q. absent-not-in 2 (1 ∷ []) refl (rw (← (late-placed .about 2 s q)) at q))))
+telling-after-freeing = (
+  after late-end (tells 1 1 0 0),
+  record { before = late-acts; here = late-end; come = late-run; slipped = after late-end (tells 1 1 0 0); slip = late-slip; later = []; gone = still },
+  (
+    1,
+    0,
+    0,
+    (List·Memᴰ·head refl, (1, refl), refl),
+    no-ring late-placed 1 2 (0, List·Memᴰ·head refl, refl) (λ s q. absent-not-in 2 (1 ∷ []) refl (rw (← (late-placed .about 2 s q)) at q)),
+  ),
+)
 
 abbrev early-acts : List Act
 early-acts = asks 1 0 ∷ takes 1 1 ∷ asks 1 1 ∷ takes 0 0 ∷ asks 0 0 ∷ []
@@ -175,10 +187,11 @@ early-nowhere : (s : ℕ) → Queued after-early-end 1 s → ⊥
 early-nowhere = nowhere 1 _ _ _ refl (nowhere 1 _ _ _ refl (nowhere 1 _ _ _ refl (λ s m. elim m [ ])))
 
 pub sign-before-queue : SignBeforeQueue
-sign-before-queue =
-    (after-early-end,
-    record { before = early-acts; here = early-end; come = early-run; slipped = early-slipped; slip = signs-early 1 0 0 1 3 refl (omega arith) refl (λ e. omega arith) (omega arith) refl; later = after-early-acts; gone = after-early-run },
-    (1, 0, 0, (List·Memᴰ·head refl, (1, refl), refl), λ is r. early-nowhere (along-queued (r .0) .0) (along-queued (r .0) .1)))
+sign-before-queue = (
+  after-early-end,
+  record { before = early-acts; here = early-end; come = early-run; slipped = early-slipped; slip = signs-early 1 0 0 1 3 refl (omega arith) refl (λ e. omega arith) (omega arith) refl; later = after-early-acts; gone = after-early-run },
+  (1, 0, 0, (List·Memᴰ·head refl, (1, refl), refl), λ is r. early-nowhere (along-queued (r .0) .0) (along-queued (r .0) .1)),
+)
 
 abbrev old-acts : List Act
 old-acts = tells 2 1 0 0 ∷ hears 0 2 8 ∷ tells 0 1 2 2 ∷ begins 0 2 2 1 3 ∷ joins 0 2 ∷ asks 0 2 ∷ passes 0 1 ∷ frees 0 1 ∷ begins 2 1 0 1 8 ∷ joins 2 1 ∷ asks 2 1 ∷ joins 1 1 ∷ asks 1 1 ∷ takes 0 1 ∷ asks 0 1 ∷ takes 2 2 ∷ asks 2 2 ∷ takes 0 0 ∷ asks 0 0 ∷ passes 2 0 ∷ frees 2 0 ∷ passes 0 0 ∷ frees 0 0 ∷ begins 2 0 0 1 5 ∷ joins 2 0 ∷ asks 2 0 ∷ takes 0 0 ∷ asks 0 0 ∷ []
@@ -225,11 +238,17 @@ old-placed : Placed 3 old-slipped
 old-placed = placed-told (sound (old-acts, old-run) .places) _ _
 
 pub earlier-count : EarlierCount
-earlier-count =
-    (old-slipped,
-    record { before = old-acts; here = old-end; come = old-run; slipped = old-slipped; slip = takes-old-for-new 2 1 0 8 (List·Memᴰ·head refl); later = []; gone = still },
-    (2, 0, 1, (List·Memᴰ·head refl, (1, refl), refl),
-    no-ring old-placed 2 1 (1, List·Memᴰ·head refl, refl) (λ s q. absent-not-in 1 (2 ∷ []) refl (rw (← (old-placed .about 1 s q)) at q))))
+earlier-count = (
+  old-slipped,
+  record { before = old-acts; here = old-end; come = old-run; slipped = old-slipped; slip = takes-old-for-new 2 1 0 8 (List·Memᴰ·head refl); later = []; gone = still },
+  (
+    2,
+    0,
+    1,
+    (List·Memᴰ·head refl, (1, refl), refl),
+    no-ring old-placed 2 1 (1, List·Memᴰ·head refl, refl) (λ s q. absent-not-in 1 (2 ∷ []) refl (rw (← (old-placed .about 1 s q)) at q)),
+  ),
+)
 
 abbrev keep-acts : List Act
 keep-acts = passes 2 1 ∷ frees 2 1 ∷ hears 0 2 5 ∷ tells 0 1 1 2 ∷ begins 0 1 2 1 3 ∷ joins 0 1 ∷ asks 0 1 ∷ takes 0 2 ∷ asks 0 2 ∷ joins 1 1 ∷ asks 1 1 ∷ takes 2 1 ∷ asks 2 1 ∷ passes 1 0 ∷ frees 1 0 ∷ begins 2 0 1 1 5 ∷ joins 2 0 ∷ asks 2 0 ∷ takes 1 0 ∷ asks 1 0 ∷ []
@@ -267,7 +286,8 @@ keep-slipped =
       section = keep-end .section;
       engine = put 0 (record { mode = waiting 1 1 2; count = suc (count keep-end 0); shown = shown keep-end 0; own = own keep-end 0 }) (keep-end .engine);
       begun = record { engine = 0; count = suc (count keep-end 0); section = 1 } ∷ keep-end .begun;
-      told = keep-end .told }
+      told = keep-end .told;
+    }
 
 abbrev after-keep-acts : List Act
 after-keep-acts = hears 1 0 5 ∷ tells 1 1 2 0 ∷ begins 1 2 0 1 4 ∷ joins 1 2 ∷ asks 1 2 ∷ []
@@ -288,8 +308,8 @@ keep-placed : Placed 3 after-keep-end
 keep-placed =
     placed-run
     (placed-modes
-      (placed-after (sound (keep-acts, keep-run) .places) (begins 0 1 1 2 6) ((refl, omega arith), inl (List·Memᴰ·head refl), (omega arith, omega arith, refl, λ e. omega arith), (omega arith, refl)))
-      _ _ _ (λ x. put-mode 0 _ _ (keep-end .engine) x refl))
+    (placed-after (sound (keep-acts, keep-run) .places) (begins 0 1 1 2 6) ((refl, omega arith), inl (List·Memᴰ·head refl), (omega arith, omega arith, refl, λ e. omega arith), (omega arith, refl)))
+    _ _ _ (λ x. put-mode 0 _ _ (keep-end .engine) x refl))
     after-keep-run
 
 keep-ring : Ring after-keep-end 0 (1 ∷ [])
@@ -299,10 +319,11 @@ keep-above : Above after-keep-end (0 ∷ 1 ∷ [])
 keep-above = of-two after-keep-end 0 1 ((1, 1, (2, refl), List·Memᴰ·head refl, refl), omega arith) ((0, 2, (1, refl), List·Memᴰ·head refl, refl), omega arith)
 
 pub kept-sign : KeptSign
-kept-sign =
-    (after-keep-end,
-    record { before = keep-acts; here = keep-end; come = keep-run; slipped = keep-slipped; slip = keeps-sign 0 1 1 2 (refl, omega arith) (List·Memᴰ·head refl) (omega arith) refl (λ e. omega arith); later = after-keep-acts; gone = after-keep-run },
-    (0, 1 ∷ [], keep-ring, keep-above, never-found keep-placed 0 (1 ∷ []) keep-ring keep-above))
+kept-sign = (
+  after-keep-end,
+  record { before = keep-acts; here = keep-end; come = keep-run; slipped = keep-slipped; slip = keeps-sign 0 1 1 2 (refl, omega arith) (List·Memᴰ·head refl) (omega arith) refl (λ e. omega arith); later = after-keep-acts; gone = after-keep-run },
+  (0, 1 ∷ [], keep-ring, keep-above, never-found keep-placed 0 (1 ∷ []) keep-ring keep-above),
+)
 
 abbrev again-acts : List Act
 again-acts = passes 2 0 ∷ frees 2 0 ∷ hears 1 0 8 ∷ tells 1 1 1 0 ∷ begins 1 1 0 1 4 ∷ joins 1 1 ∷ asks 1 1 ∷ takes 1 2 ∷ asks 1 2 ∷ hears 0 2 8 ∷ tells 0 1 0 2 ∷ begins 0 0 2 3 3 ∷ joins 0 0 ∷ asks 0 0 ∷ takes 0 1 ∷ asks 0 1 ∷ passes 1 0 ∷ frees 1 0 ∷ begins 2 0 1 2 8 ∷ passes 0 0 ∷ frees 0 0 ∷ begins 2 0 0 1 5 ∷ joins 2 0 ∷ asks 2 0 ∷ joins 1 0 ∷ asks 1 0 ∷ takes 0 0 ∷ asks 0 0 ∷ []
@@ -370,7 +391,8 @@ again-above : Above after-again-end (0 ∷ 1 ∷ [])
 again-above = of-two after-again-end 0 1 ((1, 2, (1, refl), List·Memᴰ·head refl, refl), omega arith) ((0, 1, (1, refl), List·Memᴰ·head refl, refl), omega arith)
 
 pub own-sign-again : OwnSignAgain
-own-sign-again =
-    (after-again-end,
-    record { before = again-acts; here = again-end; come = again-run; slipped = again-slipped; slip = shows-own-again 0; later = after-again-acts; gone = after-again-run },
-    (0, 1 ∷ [], again-ring, again-above, never-found again-placed 0 (1 ∷ []) again-ring again-above))
+own-sign-again = (
+  after-again-end,
+  record { before = again-acts; here = again-end; come = again-run; slipped = again-slipped; slip = shows-own-again 0; later = after-again-acts; gone = after-again-run },
+  (0, 1 ∷ [], again-ring, again-above, never-found again-placed 0 (1 ∷ []) again-ring again-above),
+)

@@ -2,7 +2,7 @@
 -- Assumes nothing.
 use Prim.Native.Nat.{ℕ}
 use mathlib.Core.List.{List}
-use Rattle.yard.specs.Yard.{Yard, start, Act, May, after, Run, still, then, Reach}
+use Rattle.yard.specs.Yard.{Yard, Act, May, after, Run, still, then, Reach}
 use Rattle.yard.proofs.Places.{Placed, placed-start, placed-after}
 use Rattle.yard.proofs.Signs.{Signed, signed-start, signed-after}
 use Rattle.yard.proofs.Relays.{Relayed, relayed-start, relayed-after}
@@ -20,7 +20,8 @@ sound-after h a g =
       places = placed-after (h .places) a g;
       signs = signed-after (h .places) (h .signs) a g;
       relays = relayed-after (h .places) (h .signs) a g (h .relays);
-      covers = all-covered-after (h .places) (h .signs) a g (h .covers) }
+      covers = all-covered-after (h .places) (h .signs) a g (h .covers);
+    }
 
 pub sound-run : {engines : ℕ} {y z : Yard} {acts : List Act} → Sound engines y → Run engines y acts z → Sound engines z
 sound-run h still = h

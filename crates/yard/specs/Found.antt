@@ -1,7 +1,6 @@
 -- That every ring is found, by the one whose own sign is the highest, through telling and hearing alone.
 -- Assumes nothing.
 use mathlib.Core.Path.{_≡_}
-use mathlib.Core.Logic.{_⊎_}
 use mathlib.Core.List.{List, [], _∷_, _++_, List·Memᴰ}
 use Prim.Native.Nat.{ℕ, _+_, _<_, _≤_}
 use lib.ListN.{length}
@@ -94,8 +93,8 @@ pub data Delivered (engines : ℕ) (y : Yard) (x c j v : ℕ) : List Act → Yar
 -- j tells x the sign that it shows, for the wait that x is in, and that comes to x; whatever else happens before the telling and before it comes.
 pub data Passed (engines : ℕ) (y : Yard) (j x : ℕ) : List Act → Yard → Type 0 where
   passed : {before between come : List Act} {y1 y2 y3 : Yard} → Run engines y before y1 → (s : ℕ) (g : May engines y1 (tells x (count y1 x) s j)) →
-    Run engines (after y1 (tells x (count y1 x) s j)) between y2 → Delivered engines y2 x (count y1 x) j (shown y1 j) come y3 →
-    Passed engines y j x (come ++ (between ++ (tells x (count y1 x) s j ∷ before))) y3
+      Run engines (after y1 (tells x (count y1 x) s j)) between y2 → Delivered engines y2 x (count y1 x) j (shown y1 j) come y3 →
+      Passed engines y j x (come ++ (between ++ (tells x (count y1 x) s j ∷ before))) y3
 
 -- What k shows is told on from one to the next, in order, until it comes to x.
 pub data ToldOn (engines : ℕ) (y : Yard) (k : ℕ) : ℕ → List Act → Yard → Type 0 where
