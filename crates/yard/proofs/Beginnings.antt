@@ -9,7 +9,7 @@ use native.Mathlib.Omega.{arith}
 use lib.ListN.{length}
 use Rattle.std.proofs.shelf.Tests.{cases-eq}
 use Rattle.yard.specs.Yard.{by, Section, Mode, none, asking, waiting, freeing, leaving, Engine, Yard, holder, mode, shown, beginning, Unheard, Act, begins, May, after, Run, still, then, WaitsFor}
-use Rattle.yard.specs.Found.{Heard, Every, BeginsOf}
+use Rattle.yard.specs.Found.{Heard, BeginningsOf, no-beginning, a-beginning}
 use Rattle.yard.proofs.Queues.{at-put, put-other}
 use Rattle.yard.proofs.Places.{Placed, About, view-last, waiting≢leaving}
 use Rattle.yard.proofs.Sound.{Sound, sound-run}
@@ -63,7 +63,7 @@ pub record AllBegun (engines : ℕ) (y : Yard) (ring xs : List ℕ) : Type 0 whe
   pub acts : List Act
   pub end : Yard
   pub run : Run engines y acts end
-  pub only : Every (BeginsOf y ring) acts
+  pub only : BeginningsOf y ring acts
   pub few : length acts ≤ length xs
   pub same : end .section ≡ y .section
   pub heard : (x : ℕ) → List·Memᴰ x xs → Heard end x
@@ -87,7 +87,7 @@ module _ {engines : ℕ} {y : Yard} (w : Sound engines y) {ring xs : List ℕ} (
         acts = act ∷ b .acts;
         end = after (b .end) act;
         run = then (b .run) act (g .1);
-        only = ((r, nh), b .only);
+        only = a-beginning r nh (b .only);
         few = (let l = b .few in omega arith);
         same = b .same;
         heard = heard-more;
@@ -154,7 +154,7 @@ all-begun {y = y} w ring [] f =
       acts = [];
       end = y;
       run = still;
-      only = tt;
+      only = no-beginning;
       few = omega arith;
       same = refl;
       heard = λ x m. elim m [ ];

@@ -1,6 +1,6 @@
 -- The highest sign of a ring that stands, told back from each to the one that waits for it, comes round.
 -- Assumes nothing.
-use mathlib.Core.Path.{_≡_, refl, sym, ap, _∙_}
+use mathlib.Core.Path.{_≡_, refl, sym, ap, subst, _∙_}
 use mathlib.Core.Logic.{inl, inr}
 use mathlib.Core.List.{List, [], _∷_, List·Memᴰ, List·Memᴰ·head, List·Memᴰ·tail}
 use Prim.Native.Nat.{ℕ, suc, _+_, _<_, _≤_}
@@ -8,7 +8,7 @@ use native.Mathlib.Omega.{arith}
 use lib.ListN.{length}
 use Rattle.std.proofs.shelf.Tests.{cases-lt}
 use Rattle.yard.specs.Yard.{by, waiting, Engine, Telling, Yard, mode, count, shown, own, Told, showing, Act, tells, hears, finds, May, after, Run, still, then, WaitsFor, Along, one, more}
-use Rattle.yard.specs.Found.{Heard, Every, TellsOrHears, tellings, Found}
+use Rattle.yard.specs.Found.{Heard, Round, no-telling, a-telling, a-hearing, Found}
 use Rattle.yard.proofs.Queues.{at-put}
 use Rattle.yard.proofs.Sound.{Sound, sound, sound-run}
 use Rattle.yard.proofs.Rounds.{waits-one, along-all}
@@ -62,8 +62,7 @@ record Going (engines k : ℕ) (ks : List ℕ) (y : Yard) (long : ℕ) (Goal : Y
   acts : List Act
   end : Yard
   run : Run engines y acts end
-  only : Every TellsOrHears acts
-  as-many : tellings acts ≡ long
+  round : Round long acts
   stands : Standing engines k ks end
   same : end .section ≡ y .section
   goal : Goal end
@@ -88,8 +87,7 @@ module _ {engines k : ℕ} {ks : List ℕ} {y : Yard} where
             acts = c .acts;
             end = c .end;
             run = c .run;
-            only = c .only;
-            as-many = c .as-many;
+            round = c .round;
             stands = c .stands;
             same = c .same;
             goal = (let l = shown-low (c .stands) x m in omega arith);
@@ -110,8 +108,7 @@ module _ {engines k : ℕ} {ks : List ℕ} {y : Yard} where
             acts = a ∷ c .acts;
             end = after z a;
             run = then (c .run) a (g l);
-            only = (tt, c .only);
-            as-many = (let n = c .as-many in omega arith);
+            round = a-hearing (c .round);
             stands = standing-after (c .stands) a (g l) (λ i t. hears≢finds);
             same = c .same;
             goal = new ∙ sym (ring-did (c .stands) a (g l) (λ i t. hears≢finds) k (List·Memᴰ·head refl) .1);
@@ -123,8 +120,7 @@ module _ {engines k : ℕ} {ks : List ℕ} {y : Yard} where
         acts = a ∷ c .acts;
         end = after (c .end) a;
         run = then (c .run) a g;
-        only = (tt, c .only);
-        as-many = (let l = c .as-many in omega arith);
+        round = a-telling (c .round);
         stands = standing-after (c .stands) a g (λ i t. tells≢finds);
         same = c .same;
         goal = (h .for, h .place, h .as-of, h .view, List·Memᴰ·head (same-telling for-j (sym (c .goal))));
@@ -147,7 +143,7 @@ module _ {engines k : ℕ} {ks : List ℕ} {y : Yard} where
 
   carry : Standing engines k ks y → {x e : ℕ} {is : List ℕ} → Along y x is e → List·Memᴰ x (k ∷ ks) → shown y e ≡ own y k → Going engines k ks y (suc (length is)) (ToldTop k x)
   carry w (one n) m s =
-      tell-on m n (record { acts = []; end = y; run = still; only = tt; as-many = refl; stands = w; same = refl; goal = s })
+      tell-on m n (record { acts = []; end = y; run = still; round = no-telling; stands = w; same = refl; goal = s })
   carry w (more {i = x} {j = j} n t) m s =
       let i = ring-closed (w .sound .places) (w .ring) x j m n in tell-on m n (hear i (carry w t i s))
 
@@ -177,8 +173,7 @@ found engines y r i is c n =
       round = go .acts;
       end = go .end;
       told-round = go .run;
-      only-tellings = go .only;
-      as-many = go .as-many ∙ ap suc (t .2);
+      as-many-tellings = subst (λ (n : ℕ). Round n (go .acts)) (ap suc (t .2)) (go .round);
       finder = k .0;
       in-ring = k .1;
       highest = k .2;
