@@ -4,13 +4,13 @@ use mathlib.Core.Path.{_≡_, refl, sym, _∙_}
 use mathlib.Core.Logic.{inl}
 use mathlib.Core.Bool.{Bool, true, false, cond}
 use mathlib.Core.List.{List, [], _∷_, List·Memᴰ, List·Memᴰ·head, List·Memᴰ·tail}
-use Prim.Native.Nat.{ℕ, suc, _<_}
+use Prim.Native.Nat.{ℕ, suc, _<_, _≤_}
 use native.Mathlib.Omega.{arith}
 use lib.Dec.{eqb}
 use Rattle.std.proofs.shelf.Tests.{false≢true, eq-eqb}
-use Rattle.yard.specs.Yard.{free, by, Section, waiting, Yard, Begun, Telling, start, count, shown, own, Queued, put, showing, atEngine, Act, asks, frees, takes, joins, passes, begins, tells, hears, after, Run, still, then, WaitsFor, Along, one, more, Ring}
-use Rattle.yard.specs.Found.{Heard}
-use Rattle.yard.specs.Needed.{Slip, tells-late, signs-early, takes-old-for-new, keeps-sign, shows-own-again, silent-once-freed, TellingAfterFreeing, SignBeforeQueue, EarlierCount, KeptSign, OwnSignAgain, RingOfThree}
+use Rattle.yard.specs.Yard.{free, by, Section, waiting, Yard, Begun, Telling, start, count, shown, own, Queued, put, showing, atEngine, Act, asks, frees, takes, joins, passes, begins, tells, hears, finds, after, Run, still, then, WaitsFor, Along, one, more, Ring}
+use Rattle.yard.specs.Found.{Heard, Passed, passed, shows-it, finds-it, first, next}
+use Rattle.yard.specs.Needed.{Slip, tells-late, signs-early, takes-old-for-new, keeps-sign, shows-own-again, silent-once-freed, TellingAfterFreeing, SignBeforeQueue, EarlierCount, KeptSign, OwnSignAgain, RingOfThree, RoundCanBeTold}
 use Rattle.yard.proofs.Queues.{at-put}
 use Rattle.yard.proofs.InTurn.{by≢free}
 use Rattle.yard.proofs.Places.{Placed, placed-after, same-holder}
@@ -62,15 +62,17 @@ of-two y i k a b l (List·Memᴰ·head e) = rw e a
 of-two y i k a b l (List·Memᴰ·tail (List·Memᴰ·head e)) = rw e b
 of-two y i k a b l (List·Memᴰ·tail (List·Memᴰ·tail m)) = elim m [ ]
 
-abbrev three-acts : List Act
-three-acts = tells 2 1 0 0 ∷ hears 0 1 6 ∷ tells 0 1 64 1 ∷ hears 1 2 6 ∷ tells 1 1 1 2 ∷ begins 2 0 0 1 6 ∷ joins 2 0 ∷ asks 2 0 ∷ begins 1 1 2 1 5 ∷ joins 1 1 ∷ asks 1 1 ∷ begins 0 64 1 1 4 ∷ joins 0 64 ∷ asks 0 64 ∷ takes 2 1 ∷ asks 2 1 ∷ takes 1 64 ∷ asks 1 64 ∷ takes 0 0 ∷ asks 0 0 ∷ []
+-- 0 has section 0, 1 has 64, 2 has 1; 0 waits for 1, 1 for 2, 2 for 0
+abbrev ready-acts : List Act
+ready-acts =
+    begins 2 0 0 1 6 ∷ joins 2 0 ∷ asks 2 0 ∷ begins 1 1 2 1 5 ∷ joins 1 1 ∷ asks 1 1 ∷ begins 0 64 1 1 4 ∷ joins 0 64 ∷ asks 0 64 ∷ takes 2 1 ∷ asks 2 1 ∷ takes 1 64 ∷ asks 1 64 ∷ takes 0 0 ∷ asks 0 0 ∷ []
 
-abbrev three-end : Yard
-three-end = play start three-acts
+abbrev ready : Yard
+ready = play start ready-acts
 
-three-run : Run 4 start three-acts three-end
-three-run =
-    then (then (then (then (then (then (then (then (then (then (then (then (then (then (then (then (then (then (then (then still
+ready-run : Run 4 start ready-acts ready
+ready-run =
+    then (then (then (then (then (then (then (then (then (then (then (then (then (then (then still
     (asks 0 0) (omega arith, tt))
     (takes 0 0) (refl, refl))
     (asks 1 64) (omega arith, tt))
@@ -85,24 +87,70 @@ three-run =
     (begins 1 1 2 1 5) (refl, inl (List·Memᴰ·head refl), (omega arith, omega arith, refl, λ e. omega arith), (omega arith, refl)))
     (asks 2 0) (omega arith, refl))
     (joins 2 0) (refl, (0, refl, λ e. omega arith), absent-not-in 2 _ refl))
-    (begins 2 0 0 1 6) (refl, inl (List·Memᴰ·head refl), (omega arith, omega arith, refl, λ e. omega arith), (omega arith, refl)))
+    (begins 2 0 0 1 6) (refl, inl (List·Memᴰ·head refl), (omega arith, omega arith, refl, λ e. omega arith), (omega arith, refl))
+
+abbrev three-acts : List Act
+three-acts = tells 2 1 0 0 ∷ hears 0 1 6 ∷ tells 0 1 64 1 ∷ hears 1 2 6 ∷ tells 1 1 1 2 ∷ ready-acts
+
+abbrev three-end : Yard
+three-end = play start three-acts
+
+three-run : Run 4 start three-acts three-end
+three-run =
+    then (then (then (then (then ready-run
     (tells 1 1 1 2) (List·Memᴰ·tail (List·Memᴰ·head refl), refl))
     (hears 1 2 6) (List·Memᴰ·head refl, (1, (1, refl)), omega arith))
     (tells 0 1 64 1) (List·Memᴰ·tail (List·Memᴰ·tail (List·Memᴰ·head refl)), refl))
     (hears 0 1 6) (List·Memᴰ·head refl, (64, (1, refl)), omega arith))
     (tells 2 1 0 0) (List·Memᴰ·head refl, refl)
 
+-- the ring is there as soon as all wait, and tellings change no section
+abbrev ThreeRing : Yard → Type 0
+ThreeRing y = Ring y 2 (0 ∷ 1 ∷ [])
+
+ready-ring : ThreeRing ready
+ready-ring =
+    (more (0, List·Memᴰ·head refl, refl) (more (64, List·Memᴰ·head refl, refl) (one (1, List·Memᴰ·head refl, refl))), (absent-not-in 2 _ refl, (absent-not-in 0 _ refl, (absent-not-in 1 _ refl, tt))))
+
+three-ring : ThreeRing three-end
+three-ring =
+    (more (0, List·Memᴰ·head refl, refl) (more (64, List·Memᴰ·head refl, refl) (one (1, List·Memᴰ·head refl, refl))), (absent-not-in 2 _ refl, (absent-not-in 0 _ refl, (absent-not-in 1 _ refl, tt))))
+
 pub ring-of-three : RingOfThree
-ring-of-three = (
-  three-acts,
-  three-end,
-  three-run,
-  (more (0, List·Memᴰ·head refl, refl) (more (64, List·Memᴰ·head refl, refl) (one (1, List·Memᴰ·head refl, refl))), (absent-not-in 2 _ refl, (absent-not-in 0 _ refl, (absent-not-in 1 _ refl, tt)))),
-  refl,
-  refl,
-  refl,
-  (List·Memᴰ·head refl, (1, refl), refl),
-)
+ring-of-three = (three-acts, three-end, three-run, three-ring, refl, refl, refl, (List·Memᴰ·head refl, (1, refl), refl))
+
+ready-heard : (l : ℕ) → List·Memᴰ l (2 ∷ 0 ∷ 1 ∷ []) → Heard ready l
+ready-heard l (List·Memᴰ·head e) = rw e (0, 0, (1, refl), List·Memᴰ·head refl, refl)
+ready-heard l (List·Memᴰ·tail (List·Memᴰ·head e)) = rw e (1, 64, (1, refl), List·Memᴰ·head refl, refl)
+ready-heard l (List·Memᴰ·tail (List·Memᴰ·tail (List·Memᴰ·head e))) = rw e (2, 1, (1, refl), List·Memᴰ·head refl, refl)
+ready-heard l (List·Memᴰ·tail (List·Memᴰ·tail (List·Memᴰ·tail m))) = elim m [ ]
+
+ready-high : (l : ℕ) → List·Memᴰ l (0 ∷ 1 ∷ []) → own ready l ≤ own ready 2
+ready-high l (List·Memᴰ·head e) = rw e (omega arith)
+ready-high l (List·Memᴰ·tail (List·Memᴰ·head e)) = rw e (omega arith)
+ready-high l (List·Memᴰ·tail (List·Memᴰ·tail m)) = elim m [ ]
+
+-- each telling comes to the next at once
+abbrev once : Yard
+once = after (after ready (tells 1 1 1 2)) (hears 1 2 6)
+
+abbrev twice : Yard
+twice = after (after once (tells 0 1 64 1)) (hears 0 1 6)
+
+abbrev told : Yard
+told = after twice (tells 2 1 0 0)
+
+pass-one : Passed 4 ready 2 1 (hears 1 2 6 ∷ tells 1 1 1 2 ∷ []) once
+pass-one = passed still 1 (List·Memᴰ·tail (List·Memᴰ·head refl), refl) still (shows-it refl (List·Memᴰ·head refl, (1, (1, refl)), omega arith))
+
+pass-two : Passed 4 once 1 0 (hears 0 1 6 ∷ tells 0 1 64 1 ∷ []) twice
+pass-two = passed still 64 (List·Memᴰ·tail (List·Memᴰ·tail (List·Memᴰ·head refl)), refl) still (shows-it refl (List·Memᴰ·head refl, (64, (1, refl)), omega arith))
+
+pass-three : Passed 4 twice 0 2 (finds 2 0 0 ∷ tells 2 1 0 0 ∷ []) (after told (finds 2 0 0))
+pass-three = passed still 0 (List·Memᴰ·head refl, refl) still (finds-it 0 refl refl (List·Memᴰ·head refl, (1, refl), refl))
+
+pub round-can-be-told : RoundCanBeTold
+round-can-be-told = (ready, (ready-acts, ready-run), ready-ring, ready-heard, ready-high, (_, _, next (next (first pass-one) pass-two) pass-three))
 
 abbrev late-acts : List Act
 late-acts = hears 0 1 4 ∷ tells 0 1 1 1 ∷ begins 0 1 1 1 3 ∷ joins 0 1 ∷ asks 0 1 ∷ passes 0 0 ∷ frees 0 0 ∷ begins 1 0 0 1 4 ∷ joins 1 0 ∷ asks 1 0 ∷ joins 2 0 ∷ asks 2 0 ∷ takes 1 1 ∷ asks 1 1 ∷ takes 0 0 ∷ asks 0 0 ∷ []

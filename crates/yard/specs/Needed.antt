@@ -3,8 +3,8 @@
 use mathlib.Core.Path.{_≡_}
 use mathlib.Core.List.{List, [], _∷_, List·Memᴰ}
 use Prim.Native.Nat.{ℕ, suc, _%_, _<_, _≤_}
-use Rattle.yard.specs.Yard.{by, asking, waiting, Yard, start, mode, count, shown, own, Queued, HasBegun, Told, put, showing, atEngine, Unheard, Finds, Act, begins, tells, after, Run, Ring}
-use Rattle.yard.specs.Found.{Heard}
+use Rattle.yard.specs.Yard.{by, asking, waiting, Yard, start, mode, count, shown, own, Queued, HasBegun, Told, put, showing, atEngine, Unheard, Finds, Act, begins, tells, after, Run, Reach, Ring}
+use Rattle.yard.specs.Found.{Heard, ToldOn}
 
 -- The rules that are dropped, one at a time.
 pub data Rule : Type 0 where
@@ -85,3 +85,9 @@ OwnSignAgain = LostRing 3 shown-after-stop
 abbrev pub RingOfThree : Type 0
 RingOfThree =
     (acts : List Act) × (y : Yard) × Run 4 start acts y × Ring y 2 (0 ∷ 1 ∷ []) × (own y 2 ≡ 6) × (own y 0 ≡ 4) × (own y 1 ≡ 5) × Finds y 2 0 0
+
+-- Nor is the promise about every run: before the tellings all three have heard whom they wait for, 2 has the highest own sign, and it is told round.
+abbrev pub RoundCanBeTold : Type 0
+RoundCanBeTold =
+    (y : Yard) × Reach 4 y × Ring y 2 (0 ∷ 1 ∷ []) × ((l : ℕ) → List·Memᴰ l (2 ∷ 0 ∷ 1 ∷ []) → Heard y l) × ((l : ℕ) → List·Memᴰ l (0 ∷ 1 ∷ []) → own y l ≤ own y 2) ×
+    ((acts : List Act) × (z : Yard) × ToldOn 4 y 2 2 acts z)

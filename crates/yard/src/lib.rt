@@ -1,6 +1,6 @@
 // What is promised of the whole yard, sections and signs together. Each function carries one promise in its contract, and does nothing.
 ghost use Rattle.yard.specs.Found.{Found, FoundInEveryRun};
-ghost use Rattle.yard.specs.Needed.{RingOfThree, TellingAfterFreeing, SignBeforeQueue, EarlierCount, KeptSign, OwnSignAgain};
+ghost use Rattle.yard.specs.Needed.{RingOfThree, RoundCanBeTold, TellingAfterFreeing, SignBeforeQueue, EarlierCount, KeptSign, OwnSignAgain};
 ghost use Rattle.yard.specs.Order.{OneAtATime, OnePlace, SomebodyHas, FirstGets, NoOvertaking, Behind, TurnHasCome, OwnDiffer, ShownRises, OnlyTaken};
 ghost use Rattle.yard.specs.Rings.{Real, Highest, Alone, Stays, StaysUntilFound, OldWords};
 
@@ -97,6 +97,11 @@ pub fn found_in_every_run()
 // The promises are not empty: a run to a ring of three and its finding.
 pub fn ring_of_three_is_found()
     ensures { λ _. ⌜ RingOfThree ⌝ }
+{}
+
+// The premises of the promise about every run can be met: the highest sign of that ring is told round.
+pub fn round_can_be_told()
+    ensures { λ _. ⌜ RoundCanBeTold ⌝ }
 {}
 
 // Telling after the freeing was sent leads to a false finding.
