@@ -17,6 +17,7 @@ use Rattle.yard.proofs.Places.{Placed, placed-after, same-holder}
 use Rattle.yard.proofs.Lost.{Above, never-found, placed-modes, put-mode, show-mode, placed-run}
 use Rattle.yard.proofs.Rounds.{waits-one, along-queued}
 use Rattle.yard.proofs.Sound.{sound}
+use Rattle.yard.proofs.Standing.{along-map}
 
 -- the yard after the acts, the last one first in the list
 abbrev play : Yard → List Act → Yard
@@ -113,8 +114,7 @@ ready-ring =
     (more (0, List·Memᴰ·head refl, refl) (more (64, List·Memᴰ·head refl, refl) (one (1, List·Memᴰ·head refl, refl))), (absent-not-in 2 _ refl, (absent-not-in 0 _ refl, (absent-not-in 1 _ refl, tt))))
 
 three-ring : ThreeRing three-end
-three-ring =
-    (more (0, List·Memᴰ·head refl, refl) (more (64, List·Memᴰ·head refl, refl) (one (1, List·Memᴰ·head refl, refl))), (absent-not-in 2 _ refl, (absent-not-in 0 _ refl, (absent-not-in 1 _ refl, tt))))
+three-ring = (along-map (λ x j m n. n) (ready-ring .0), ready-ring .1)
 
 pub ring-of-three : RingOfThree
 ring-of-three = (three-acts, three-end, three-run, three-ring, refl, refl, refl, (List·Memᴰ·head refl, (1, refl), refl))
