@@ -288,7 +288,7 @@ old-placed = placed-told (sound (old-acts, old-run) .places) _ _
 pub earlier-count : EarlierCount
 earlier-count = (
   old-slipped,
-  record { before = old-acts; here = old-end; come = old-run; slipped = old-slipped; slip = takes-old-for-new 2 1 0 8 (List·Memᴰ·head refl); later = []; gone = still },
+  record { before = old-acts; here = old-end; come = old-run; slipped = old-slipped; slip = takes-old-for-new 2 1 0 8 (omega arith) (List·Memᴰ·head refl); later = []; gone = still },
   (
     2,
     0,
@@ -369,7 +369,7 @@ keep-above = of-two after-keep-end 0 1 ((1, 1, (2, refl), List·Memᴰ·head ref
 pub kept-sign : KeptSign
 kept-sign = (
   after-keep-end,
-  record { before = keep-acts; here = keep-end; come = keep-run; slipped = keep-slipped; slip = keeps-sign 0 1 1 2 (refl, omega arith) (List·Memᴰ·head refl) (omega arith) refl (λ e. omega arith); later = after-keep-acts; gone = after-keep-run },
+  record { before = keep-acts; here = keep-end; come = keep-run; slipped = keep-slipped; slip = keeps-sign 0 1 1 2 (refl, omega arith) (List·Memᴰ·head refl) (omega arith) (omega arith) refl (λ e. omega arith); later = after-keep-acts; gone = after-keep-run },
   (0, 1 ∷ [], keep-ring, keep-above, never-found keep-placed 0 (1 ∷ []) keep-ring keep-above),
 )
 

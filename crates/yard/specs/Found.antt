@@ -22,8 +22,8 @@ pub data Round : ℕ → List Act → Type 0 where
   a-telling : {n x c s j : ℕ} {acts : List Act} → Round n acts → Round (suc n) (tells x c s j ∷ acts)
   a-hearing : {n x j v : ℕ} {acts : List Act} → Round n acts → Round n (hears x j v ∷ acts)
 
--- A way from a ring to its finding: those that haven't heard whom they wait for begin, each once at most; then there are only tellings and
--- hearings, as many tellings as engines; then the one finds whose own sign is the highest.
+-- A way from a ring to its finding: those that haven't heard whom they wait for begin, at most as many beginnings as engines; then there are only
+-- tellings and hearings, as many tellings as engines; then the one finds whose own sign is the highest.
 pub record WayToFinding (engines : ℕ) (y : Yard) (ring : List ℕ) : Type 0 where
   pub beginnings : List Act
   pub all-heard : Yard

@@ -27,11 +27,11 @@ pub data Slip (engines : ℕ) (y : Yard) : Rule → Yard → Type 0 where
   signs-early : (i s j m u : ℕ) → mode y i ≡ asking s → m ≤ y .section s .change → y .section s .past m ≡ by j → (i ≡ j → ⊥) → shown y i < u → u % engines ≡ i →
       Slip engines y sign-once-queued (after y (begins i s j m u))
   -- i takes what was told for an earlier wait for something told for the present one
-  takes-old-for-new : (i c j v : ℕ) → Told y i c j v →
+  takes-old-for-new : (i c j v : ℕ) → c < count y i → Told y i c j v →
       Slip engines y by-this-count
       (record { section = y .section; engine = y .engine; begun = y .begun; told = record { to = i; count = count y i; teller = j; sign = v } ∷ y .told })
   -- i begins to wait for the next holder and keeps its signs
-  keeps-sign : (i s j m : ℕ) → Unheard s m (mode y i) → Queued y i s → m ≤ y .section s .change → y .section s .past m ≡ by j → (i ≡ j → ⊥) →
+  keeps-sign : (i s j m : ℕ) → Unheard s m (mode y i) → Queued y i s → y .section s .came i ≤ m → m ≤ y .section s .change → y .section s .past m ≡ by j → (i ≡ j → ⊥) →
       Slip engines y new-sign-each-time
       (record {
         section = y .section;
