@@ -8,12 +8,11 @@ use native.Mathlib.Nat.{mod-eq-of-lt, mul-add-mod-self-right, mul-le-mul-left}
 use native.Mathlib.Omega.{arith}
 use lib.ListN.{length}
 use Rattle.std.proofs.shelf.Tests.{cases-eq}
-use Rattle.yard.specs.Yard.{by, Section, Mode, none, asking, waiting, freeing, leaving, Engine, Yard, holder, mode, shown, Queued, beginning, WaitsOn, Unheard, Act, begins, May, after, Run, still, then, WaitsFor}
-use Rattle.yard.specs.Found.{Heard, Every, BeginsOf}
+use Rattle.yard.specs.Yard.{by, Section, Mode, none, asking, waiting, freeing, leaving, Engine, Yard, holder, mode, shown, beginning, Unheard, Act, begins, May, after, Run, still, then, WaitsFor}
+use Rattle.yard.specs.Found.{Heard, BeginningsOf, no-beginning, a-beginning}
 use Rattle.yard.proofs.Queues.{at-put, put-other}
 use Rattle.yard.proofs.Places.{Placed, About, view-last, waiting≢leaving}
-use Rattle.yard.proofs.Relays.{Live}
-use Rattle.yard.proofs.Sound.{Sound, sound-after, sound-run}
+use Rattle.yard.proofs.Sound.{Sound, sound-run}
 
 -- there is a higher sign of one's own
 higher : (engines i v : ℕ) → i < engines → (u : ℕ) × ((v < u) × (u % engines ≡ i))
@@ -32,9 +31,10 @@ module _ {engines : ℕ} {y : Yard} (p : Placed engines y) where
       go (asking t) e a = inr a
       go (waiting k t m) e a =
           let v = p .view i k t m e in
-          elim (cases-eq m (y .section t .change))
-          [ inl d ↦ inl (k, t, (m, e), rw a (n .1), sym (p .kept t .now) ∙ (rw d at (v .1)))
-          | inr d ↦ inr (a, (let b = v .2 in let c = ap (λ (r : ℕ). y .section r .change) a in omega arith)) ]
+          elim (cases-eq m (y .section t .change)) [
+            | inl d ↦ inl (k, t, (m, e), rw a (n .1), sym (p .kept t .now) ∙ (rw d at (v .1)))
+            | inr d ↦ inr (a, (let b = v .2 in let c = ap (λ (r : ℕ). y .section r .change) a in omega arith))
+          ]
       go (freeing t) e a = absurd a
       go (leaving t) e a = absurd (nl t e)
 
@@ -63,7 +63,7 @@ pub record AllBegun (engines : ℕ) (y : Yard) (ring xs : List ℕ) : Type 0 whe
   pub acts : List Act
   pub end : Yard
   pub run : Run engines y acts end
-  pub only : Every (BeginsOf y ring) acts
+  pub only : BeginningsOf y ring acts
   pub few : length acts ≤ length xs
   pub same : end .section ≡ y .section
   pub heard : (x : ℕ) → List·Memᴰ x xs → Heard end x
@@ -87,28 +87,36 @@ module _ {engines : ℕ} {y : Yard} (w : Sound engines y) {ring xs : List ℕ} (
         acts = act ∷ b .acts;
         end = after (b .end) act;
         run = then (b .run) act (g .1);
-        only = ((r, nh), b .only);
+        only = a-beginning r nh (b .only);
         few = (let l = b .few in omega arith);
         same = b .same;
         heard = heard-more;
         still-heard = λ x h. either-heard (after (b .end) act) here others x (b .still-heard x h);
         none-leaves =
-          λ x t. at-put (λ (e : Engine). e .mode ≡ leaving t → mode y x ≡ leaving t) i new (b .end .engine) x (λ d e. absurd (waiting≢leaving refl e)) (λ d e. b .none-leaves x t e) }
+            λ x t. at-put (λ (e : Engine). e .mode ≡ leaving t → mode y x ≡ leaving t) i new (b .end .engine) x (λ d e. absurd (waiting≢leaving refl e)) (λ d e. b .none-leaves x t e);
+      }
     where
       s : ℕ
       s = now .0
+
       m : ℕ
       m = b .end .section (now .0) .change
+
       g : (u : ℕ) × May engines (b .end) (begins i (now .0) j (b .end .section (now .0) .change) u)
       g = may-begin placed now u (waiter-numbered placed now)
+
       act : Act
       act = begins i (now .0) j (b .end .section (now .0) .change) (g .0)
+
       new : Engine
       new = beginning (waiting j (now .0) (b .end .section (now .0) .change)) (g .0) (b .end .engine i)
+
       here : Heard (after (b .end) act) i
       here = (j, now .0, (m, at-put (λ (e : Engine). e .mode ≡ waiting j s m) i new (b .end .engine) i (λ e. refl) (λ d. absurd (d refl))), now .1, now .2)
+
       others : (x : ℕ) → (x ≡ i → ⊥) → Heard (b .end) x → Heard (after (b .end) act) x
       others x d h = (h .0, h .1, (h .2 .0, ap (λ (e : Engine). e .mode) (put-other i new (b .end .engine) x d) ∙ h .2 .1), h .3, h .4)
+
       heard-more : (x : ℕ) → List·Memᴰ x (i ∷ xs) → Heard (after (b .end) act) x
       heard-more x (List·Memᴰ·head e) = rw e here
       heard-more x (List·Memᴰ·tail k) = either-heard (after (b .end) act) here others x (b .heard x k)
@@ -124,7 +132,8 @@ module _ {engines : ℕ} {y : Yard} (w : Sound engines y) {ring xs : List ℕ} (
         same = b .same;
         heard = more;
         still-heard = b .still-heard;
-        none-leaves = b .none-leaves }
+        none-leaves = b .none-leaves;
+      }
     where
       more : (x : ℕ) → List·Memᴰ x (i ∷ xs) → Heard (b .end) x
       more x (List·Memᴰ·head e) = rw e h
@@ -145,12 +154,13 @@ all-begun {y = y} w ring [] f =
       acts = [];
       end = y;
       run = still;
-      only = tt;
+      only = no-beginning;
       few = omega arith;
       same = refl;
       heard = λ x m. elim m [ ];
       still-heard = λ x h. h;
-      none-leaves = λ x t e. e }
+      none-leaves = λ x t e. e;
+    }
 all-begun w ring (i ∷ xs) f =
     let h = f i (List·Memᴰ·head refl) in
     one-more w (all-begun w ring xs (λ x m. f x (List·Memᴰ·tail m))) (h .0) (h .1 .1) (h .2)

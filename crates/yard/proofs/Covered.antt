@@ -1,10 +1,10 @@
 -- A sign that an engine shows is none above all own signs along its waits, unless the waits end at one that waits no more.
 -- Assumes nothing.
 use mathlib.Core.Path.{_≡_, refl, sym, ap, _∙_}
-use mathlib.Core.Logic.{_⊎_, inl, inr}
-use Prim.Native.Nat.{ℕ, _<_, _≤_}
+use mathlib.Core.Logic.{inl, inr}
+use Prim.Native.Nat.{ℕ, _≤_}
 use native.Mathlib.Omega.{arith}
-use Rattle.yard.specs.Yard.{Mode, none, asking, waiting, freeing, leaving, Engine, Yard, start, mode, shown, own, Told, Act, May, after}
+use Rattle.yard.specs.Yard.{Mode, waiting, Engine, Yard, start, mode, shown, own, Told, Act, May, after}
 use Rattle.yard.proofs.Views.{Did, nothing, asked, freed, began, heard, found, did, told-was}
 use Rattle.yard.proofs.Places.{Placed, waiting≢asking, waiting≢freeing, waiting≢leaving}
 use Rattle.yard.proofs.Signs.{Signed, own-rises}
@@ -70,5 +70,6 @@ module _ {engines : ℕ} {y : Yard} (p : Placed engines y) (q : Signed engines y
       record {
         of-shown = λ x. shown-did r refl (did engines y a g x);
         of-told =
-          λ x c j v t. elim (told-was engines y a g x c j v t)
-          [ inl o ↦ covered-after (r .of-told x c j v o) | inr n ↦ covered-after (rw (n .0) (r .of-shown j)) ] }
+            λ x c j v t. elim (told-was engines y a g x c j v t)
+            [ inl o ↦ covered-after (r .of-told x c j v o) | inr n ↦ covered-after (rw (n .0) (r .of-shown j)) ];
+      }

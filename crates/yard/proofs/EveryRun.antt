@@ -2,12 +2,12 @@
 -- Assumes nothing.
 use mathlib.Core.Path.{_≡_, refl, sym, ap, subst, _∙_}
 use mathlib.Core.Logic.{_⊎_, inl, inr}
-use mathlib.Core.List.{List, [], _∷_, _++_, List·Memᴰ, List·Memᴰ·head, List·Memᴰ·tail, Memᴰ·append-left, Memᴰ·append-right}
-use Prim.Native.Nat.{ℕ, suc, _<_, _≤_}
+use mathlib.Core.List.{List, _∷_, _++_, List·Memᴰ, List·Memᴰ·head, List·Memᴰ·tail, Memᴰ·append-left, Memᴰ·append-right}
+use Prim.Native.Nat.{ℕ, _<_, _≤_}
 use native.Mathlib.Omega.{arith}
 use Rattle.std.proofs.shelf.Tests.{cases-eq, cases-lt}
-use Rattle.yard.specs.Yard.{by, waiting, Engine, Yard, holder, mode, count, shown, own, HasBegun, Told, showing, WaitsOn, Act, asks, frees, takes, joins, passes, leaves, begins, tells, hears, finds, May, after, Run, still, then, Reach, Ring}
-use Rattle.yard.specs.Found.{Heard, Delivered, shows-it, finds-it, passed-over, Passed, passed, ToldOn, first, next, FoundInEveryRun}
+use Rattle.yard.specs.Yard.{waiting, Engine, Yard, mode, count, shown, own, Told, showing, WaitsOn, Act, asks, frees, takes, joins, passes, leaves, begins, tells, hears, finds, May, after, Run, still, then}
+use Rattle.yard.specs.Found.{Delivered, shows-it, finds-it, passed-over, Passed, passed, ToldOn, first, next, FoundInEveryRun}
 use Rattle.yard.proofs.Queues.{at-put}
 use Rattle.yard.proofs.Views.{told-stays}
 use Rattle.yard.proofs.Places.{same-holder}
@@ -71,7 +71,8 @@ stood-after {engines} {k} {ks} {y} {z} h a g quiet =
       top = ring-did w a g quiet k (List·Memᴰ·head refl) .1 ∙ h .top;
       modes = λ x m. ring-did w a g quiet x m .0 ∙ sym (w .hears x m .view) ∙ h .modes x m;
       counts = λ x m. ring-did w a g quiet x m .3 ∙ h .counts x m;
-      rises = λ x m. (let l = h .rises x m in let u = ring-did w a g quiet x m .2 in omega arith) }
+      rises = λ x m. (let l = h .rises x m in let u = ring-did w a g quiet x m .2 in omega arith);
+    }
   where
     w : Standing engines k ks z
     w = h .stands
@@ -80,9 +81,10 @@ stood-after {engines} {k} {ks} {y} {z} h a g quiet =
 stood-run : {engines k : ℕ} {ks : List ℕ} {y z : Yard} {acts : List Act} → Standing engines k ks y → Run engines y acts z → FoundIn k acts ⊎ Stood engines k ks y z
 stood-run w still = inr (record { stands = w; top = refl; modes = λ x m. refl; counts = λ x m. refl; rises = λ x m. omega arith })
 stood-run {k = k} w (then r a g) =
-    elim (stood-run w r)
-    [ inl f ↦ inl (f .0, f .1, List·Memᴰ·tail (f .2))
-    | inr h ↦ elim (is-finding k a) [ inl f ↦ inl (f .0, f .1, List·Memᴰ·head (sym (f .2))) | inr q ↦ inr (stood-after h a g q) ] ]
+    elim (stood-run w r) [
+      | inl f ↦ inl (f .0, f .1, List·Memᴰ·tail (f .2))
+      | inr h ↦ elim (is-finding k a) [ inl f ↦ inl (f .0, f .1, List·Memᴰ·head (sym (f .2))) | inr q ↦ inr (stood-after h a g q) ]
+    ]
 
 -- a telling of the highest sign that comes to one of the ring is shown by it then, or it is the highest and finds
 abbrev Comes : ℕ → ℕ → Yard → Type 0
@@ -111,11 +113,13 @@ comes {k = k} {y = y} {x = x} w m o d e (passed-over f) =
 module _ {engines k : ℕ} {ks : List ℕ} where
   pass-stands : {y z : Yard} {j x : ℕ} {acts : List Act} → Standing engines k ks y → Passed engines y j x acts z → FoundIn k acts ⊎ Standing engines k ks z
   pass-stands w (passed {before = before} {between = between} {come = come} r s g t d) =
-      elim (stood-run w r)
-      [ inl f ↦ inl (f .0, f .1, Memᴰ·append-right come (Memᴰ·append-right between (List·Memᴰ·tail (f .2))))
-      | inr h ↦ elim (stood-run (standing-after (h .stands) _ g (λ i u. tells≢finds)) t)
-        [ inl f ↦ inl (f .0, f .1, Memᴰ·append-right come (Memᴰ·append-left _ (f .2)))
-        | inr i ↦ elim (stood-run (i .stands) (delivered-run d)) [ inl f ↦ inl (f .0, f .1, Memᴰ·append-left _ (f .2)) | inr n ↦ inr (n .stands) ] ] ]
+      elim (stood-run w r) [
+        | inl f ↦ inl (f .0, f .1, Memᴰ·append-right come (Memᴰ·append-right between (List·Memᴰ·tail (f .2))))
+        | inr h ↦ elim (stood-run (standing-after (h .stands) _ g (λ i u. tells≢finds)) t) [
+          | inl f ↦ inl (f .0, f .1, Memᴰ·append-right come (Memᴰ·append-left _ (f .2)))
+          | inr i ↦ elim (stood-run (i .stands) (delivered-run d)) [ inl f ↦ inl (f .0, f .1, Memᴰ·append-left _ (f .2)) | inr n ↦ inr (n .stands) ]
+        ]
+      ]
 
   pass-shows : {F : Type 0} {y z : Yard} {j x : ℕ} {acts : List Act} → Standing engines k ks y → List·Memᴰ x (k ∷ ks) → (List·Memᴰ j (k ∷ ks) → F ⊎ (shown y j ≡ own y k)) → Passed engines y j x acts z →
       F ⊎ (FoundIn k acts ⊎ Comes k x z)
@@ -127,18 +131,23 @@ module _ {engines k : ℕ} {ks : List ℕ} where
         where
           b : Hears y1 x
           b = h .stands .hears x m
+
           place : s ≡ h .stands .hears x m .place
           place = h .stands .sound .signs .begun-one x (count y1 x) s (b .place) (g .0) (h .stands .sound .signs .begun-now x (b .for) (b .place) (b .as-of) (b .view))
+
           for-j : h .stands .hears x m .for ≡ j
           for-j = same-holder (b .has) (rw place at (g .1))
+
           j-in : List·Memᴰ j (k ∷ ks)
           j-in = rw (← for-j) (next-in (h .stands) x m)
+
           on : shown y j ≡ own y k → FoundIn k (come ++ (between ++ (tells x (count y1 x) s j ∷ before))) ⊎ Comes k x z
           on e =
-              elim (stood-run (standing-after (h .stands) _ g (λ i u. tells≢finds)) t)
-              [ inl f ↦ inl (f .0, f .1, Memᴰ·append-right come (Memᴰ·append-left _ (f .2)))
-              | inr i ↦ elim (comes (i .stands) m (b .place, (b .as-of, i .modes x m ∙ b .view ∙ ap (λ (n : ℕ). waiting n (b .place) (b .as-of)) for-j)) (i .counts x m) (carries ∙ sym (i .top)) d)
-                [ inl f ↦ inl (f .0, f .1, Memᴰ·append-left _ (f .2)) | inr c ↦ inr c ] ]
+              elim (stood-run (standing-after (h .stands) _ g (λ i u. tells≢finds)) t) [
+                | inl f ↦ inl (f .0, f .1, Memᴰ·append-right come (Memᴰ·append-left _ (f .2)))
+                | inr i ↦ elim (comes (i .stands) m (b .place, (b .as-of, i .modes x m ∙ b .view ∙ ap (λ (n : ℕ). waiting n (b .place) (b .as-of)) for-j)) (i .counts x m) (carries ∙ sym (i .top)) d)
+                    [ inl f ↦ inl (f .0, f .1, Memᴰ·append-left _ (f .2)) | inr c ↦ inr c ]
+              ]
             where
               carries : shown y1 j ≡ own y1 k
               carries = let up = h .rises j j-in in let low = shown-low (h .stands) j j-in in let p = h .top in omega arith
@@ -152,11 +161,13 @@ module _ {engines k : ℕ} {ks : List ℕ} where
   told-on-shows : {y z : Yard} {x : ℕ} {acts : List Act} → Standing engines k ks y → shown y k ≡ own y k → ToldOn engines y k x acts z → List·Memᴰ x (k ∷ ks) → FoundIn k acts ⊎ Comes k x z
   told-on-shows w e (first p) m = elim (pass-shows {F = ⊥} w m (λ n. inr e) p) [ inl f ↦ absurd f | inr c ↦ c ]
   told-on-shows {y} w e (next {j = j} {acts = acts} {more = later} {z = z} t p) m =
-      elim (told-on-stands w t)
-      [ inl f ↦ inl (f .0, f .1, Memᴰ·append-right later (f .2))
-      | inr v ↦ elim (pass-shows {F = FoundIn k acts} v m (λ n. half (told-on-shows w e t n)) p)
-        [ inl f ↦ inl (f .0, f .1, Memᴰ·append-right later (f .2))
-        | inr c ↦ elim c [ inl f ↦ inl (f .0, f .1, Memᴰ·append-left _ (f .2)) | inr d ↦ inr d ] ] ]
+      elim (told-on-stands w t) [
+        | inl f ↦ inl (f .0, f .1, Memᴰ·append-right later (f .2))
+        | inr v ↦ elim (pass-shows {F = FoundIn k acts} v m (λ n. half (told-on-shows w e t n)) p) [
+          | inl f ↦ inl (f .0, f .1, Memᴰ·append-right later (f .2))
+          | inr c ↦ elim c [ inl f ↦ inl (f .0, f .1, Memᴰ·append-left _ (f .2)) | inr d ↦ inr d ]
+        ]
+      ]
     where
       half : FoundIn k acts ⊎ Comes k j z → FoundIn k acts ⊎ (shown z j ≡ own z k)
       half (inl f) = inl f
@@ -169,7 +180,9 @@ found-in-every-run engines y r k ks c heard high acts z t =
     highest : (l : ℕ) → List·Memᴰ l (k ∷ ks) → own y l ≤ own y k
     highest l (List·Memᴰ·head e) = rw e (omega arith)
     highest l (List·Memᴰ·tail m) = high l m
+
     w : Standing engines k ks y
     w = standing-from (sound r) (c .0) heard k highest (List·Memᴰ·head refl) (c .0)
+
     shows : shown y k ≡ own y k
     shows = let l = shown-low w k (List·Memᴰ·head refl) in let u = sound r .signs .under k in omega arith

@@ -1,7 +1,7 @@
 -- One section: who had it while another stood in the queue comes in again only behind it.
 -- Assumes nothing.
 use mathlib.Core.Path.{_≡_, refl, sym, _∙_}
-use mathlib.Core.Logic.{_⊎_, inl, inr}
+use mathlib.Core.Logic.{inl, inr}
 use mathlib.Core.List.{List, [], _∷_, _++_, List·Memᴰ, List·Memᴰ·head, List·Memᴰ·tail, Memᴰ·cast}
 use Prim.Native.Nat.{ℕ, suc, _<_, _≤_}
 use native.Mathlib.Omega.{arith}
@@ -36,7 +36,8 @@ take-kept x i k f =
       had = λ e. absurd (by≢free (by i) i refl e);
       now = now-handed (by i) x;
       since = λ j m. absurd (none j m);
-      turn = λ j n h m. absurd (none j m) }
+      turn = λ j n h m. absurd (none j m);
+    }
   where
     none : (j : ℕ) → List·Memᴰ j (x .queue) → ⊥
     none j m = elim (rw (k .had f) at m) [ ]
@@ -49,16 +50,21 @@ join-kept x i j k f ne out =
       had = λ e. absurd (by≢free (x .holder) j f e);
       now = k .now;
       since = λ l m. at-put (λ c. c ≤ x .change) i (x .change) (x .came) l (λ p. omega arith) (λ o. elim (in-end (x .queue) m) [ inl q ↦ k .since l q | inr p ↦ absurd (o p) ]);
-      turn = λ l n h m. turn-joined l n h m }
+      turn = λ l n h m. turn-joined l n h m;
+    }
   where
     same : (h : Holder) (l : ℕ) → h ≡ by l → h ≡ by j → l ≡ j
     same h l p q = cc
+
     turn-joined : (l n h : ℕ) → List·Memᴰ l (x .queue ++ (i ∷ [])) → put i (x .change) (x .came) l ≤ n → n < x .change → x .past n ≡ by h → (x .holder ≡ by h → ⊥) × (Upto h l (x .queue ++ (i ∷ [])) → ⊥)
     turn-joined l n h m =
         at-put (λ c. c ≤ n → n < x .change → x .past n ≡ by h → (x .holder ≡ by h → ⊥) × (Upto h l (x .queue ++ (i ∷ [])) → ⊥)) i (x .change) (x .came) l
         (λ p lo hi. absurd (omega arith))
-        (λ o lo hi e. elim (in-end (x .queue) m) [ inr p ↦ absurd (o p) | inl q ↦
-          (k .turn l n h q lo hi e .0, λ u. elim (upto-end (x .queue) u) [ inl v ↦ k .turn l n h q lo hi e .1 v | inr p ↦ o p ]) ])
+        (λ o lo hi e. elim (in-end (x .queue) m) [
+          | inr p ↦ absurd (o p)
+          | inl q ↦
+              (k .turn l n h q lo hi e .0, λ u. elim (upto-end (x .queue) u) [ inl v ↦ k .turn l n h q lo hi e .1 v | inr p ↦ o p ])
+        ])
 
 pub leave-kept : (x : Section) (i : ℕ) → Kept x → Kept (left i x)
 leave-kept x i k =
@@ -68,7 +74,8 @@ leave-kept x i k =
       had = λ e. rw (k .had e);
       now = k .now;
       since = λ j m. k .since j (in-without i (x .queue) m);
-      turn = λ j n h m lo hi e. (k .turn j n h (in-without i (x .queue) m) lo hi e .0, λ u. k .turn j n h (in-without i (x .queue) m) lo hi e .1 (upto-without i (x .queue) u)) }
+      turn = λ j n h m lo hi e. (k .turn j n h (in-without i (x .queue) m) lo hi e .0, λ u. k .turn j n h (in-without i (x .queue) m) lo hi e .1 (upto-without i (x .queue) u));
+    }
 
 pub in-rest : {i : ℕ} (q : List ℕ) → List·Memᴰ i (rest q) → List·Memᴰ i q
 in-rest [] m = m
@@ -112,16 +119,19 @@ pass-kept x i k f =
       had = first-had (x .queue);
       now = now-handed (first (x .queue)) x;
       since = λ j m. let l = k .since j (in-rest (x .queue) m) in omega arith;
-      turn = turn-passed }
+      turn = turn-passed;
+    }
   where
     turn-passed : (j n h : ℕ) → List·Memᴰ j (rest (x .queue)) → x .came j ≤ n → n < suc (x .change) → put (suc (x .change)) (first (x .queue)) (x .past) n ≡ by h →
         (first (x .queue) ≡ by h → ⊥) × (Upto h j (rest (x .queue)) → ⊥)
     turn-passed j n h m lo hi e =
-        elim (cases-eq n (x .change))
-        [ inl p ↦ ((λ b. k .apart h (had p) (first-in (x .queue) h b)), λ u. k .apart h (had p) (in-rest (x .queue) (upto-in u)))
-        | inr p ↦ (let t = k .turn j n h (in-rest (x .queue) m) lo (omega arith) old in ((λ b. t .1 (first-upto (x .queue) h b m)), λ u. t .1 (upto-rest (x .queue) u))) ]
+        elim (cases-eq n (x .change)) [
+          | inl p ↦ ((λ b. k .apart h (had p) (first-in (x .queue) h b)), λ u. k .apart h (had p) (in-rest (x .queue) (upto-in u)))
+          | inr p ↦ (let t = k .turn j n h (in-rest (x .queue) m) lo (omega arith) old in ((λ b. t .1 (first-upto (x .queue) h b m)), λ u. t .1 (upto-rest (x .queue) u)))
+        ]
       where
         old : x .past n ≡ by h
         old = let ne : n ≡ suc (x .change) → ⊥ = λ q. omega arith in sym (put-other _ (first (x .queue)) (x .past) n ne) ∙ e
+
         had : n ≡ x .change → x .holder ≡ by h
         had p = sym (k .now) ∙ (rw p at old)

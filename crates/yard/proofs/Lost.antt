@@ -1,13 +1,12 @@
 -- A ring whose homes have heard, each showing a higher sign than its own, is never found: none of it can do anything but hear.
 -- Assumes nothing.
 use mathlib.Core.Path.{_≡_, refl, sym, ap, _∙_}
-use mathlib.Core.Logic.{_⊎_, inl, inr}
 use mathlib.Core.Bool.{Bool, true, false, cond}
-use mathlib.Core.List.{List, [], _∷_, List·Memᴰ, List·Memᴰ·head, List·Memᴰ·tail}
-use Prim.Native.Nat.{ℕ, _<_, _≤_}
+use mathlib.Core.List.{List, _∷_, List·Memᴰ}
+use Prim.Native.Nat.{ℕ, _<_}
 use native.Mathlib.Omega.{arith}
 use lib.Dec.{eqb}
-use Rattle.yard.specs.Yard.{by, waiting, Mode, Engine, Begun, Telling, Yard, holder, mode, shown, own, Queued, put, showing, Finds, Act, May, after, Run, still, then, WaitsFor, Along, Ring}
+use Rattle.yard.specs.Yard.{Engine, Begun, Telling, Yard, mode, shown, own, put, showing, Finds, Act, May, after, Run, still, then, WaitsFor, Ring}
 use Rattle.yard.specs.Found.{Heard}
 use Rattle.yard.proofs.Queues.{at-put}
 use Rattle.yard.proofs.Views.{did}
@@ -34,6 +33,7 @@ lost-after {engines} {i} {is} {y} w a g =
         let b = w .above j (ring-closed (w .placed) (w .ring .0) x j m n) .0 in
         let v = wait-after (w .placed) a g (n .1) (n .2) (waiting≢freeing (b .2 .1)) (waiting≢leaving (h .2 .1)) in
         (n .0, v .0, v .1)
+
     above : Above (after y a) (i ∷ is)
     above l m =
         let h = w .above l m .0 in
@@ -64,7 +64,8 @@ placed-modes p f b t h =
       stands = λ i j s m e. p .stands i j s m (sym (h i) ∙ e);
       view = λ i j s m e. p .view i j s m (sym (h i) ∙ e);
       numbered = λ i. rw (h i) (p .numbered i);
-      holders = p .holders }
+      holders = p .holders;
+    }
 
 pub put-mode : (i : ℕ) (d e : Engine) (f : ℕ → Engine) (x : ℕ) → d .mode ≡ e .mode → put i d f x .mode ≡ put i e f x .mode
 put-mode i d e f x h = go (eqb x i)

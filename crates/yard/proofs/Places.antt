@@ -2,12 +2,12 @@
 -- Assumes nothing.
 use mathlib.Core.Path.{_≡_, refl, sym, _∙_}
 use mathlib.Core.Logic.{_⊎_, inl, inr}
-use mathlib.Core.List.{List, [], _∷_, _++_, List·Memᴰ, List·Memᴰ·head, List·Memᴰ·tail, Memᴰ·append-left}
+use mathlib.Core.List.{List, [], _∷_, List·Memᴰ, List·Memᴰ·head, List·Memᴰ·tail, Memᴰ·append-left}
 use Prim.Native.Nat.{ℕ, suc, _<_, _≤_}
 use native.Mathlib.Omega.{arith}
 use Rattle.std.proofs.shelf.Tests.{cases-eq}
-use Rattle.yard.specs.Yard.{Holder, free, by, Section, Mode, none, asking, waiting, freeing, leaving, Engine, Yard, start, holder, mode, count, shown, own, Queued, put, first, rest, handed, joined, left, Settled, Unheard, WaitsOn, Act, May, after}
-use Rattle.yard.proofs.Queues.{at-put, put-other, in-end, in-without, stays-without}
+use Rattle.yard.specs.Yard.{Holder, free, by, Section, Mode, none, asking, waiting, freeing, leaving, Engine, Yard, start, holder, mode, Queued, put, first, rest, Settled, Unheard, Act, May, after}
+use Rattle.yard.proofs.Queues.{put-other, in-end, in-without, stays-without}
 use Rattle.yard.proofs.InTurn.{Kept, take-kept, join-kept, leave-kept, pass-kept, in-rest, first-in, by≢free}
 use Rattle.yard.proofs.Views.{Moved, unmoved, was-taken, was-joined, was-passed, was-left, moved, Did, nothing, asked, freed, began, heard, found, did}
 
@@ -135,7 +135,8 @@ placed-start engines =
       stands = λ i j s m e. absurd (none≢waiting e);
       view = λ i j s m e. absurd (none≢waiting e);
       numbered = λ i. inl refl;
-      holders = λ i s e. absurd (by≢free free i e refl) }
+      holders = λ i s e. absurd (by≢free free i e refl);
+    }
   where
     none≢waiting : {j s m : ℕ} → none ≡ waiting j s m → ⊥
     none≢waiting p = let z : _≡_ {A = ℕ} 0 1 = cc in omega arith
@@ -162,12 +163,12 @@ module _ {engines : ℕ} {y : Yard} (p : Placed engines y) where
   -- a view of the present holder is one as of the last change
   pub view-last : {i j s m : ℕ} → mode y i ≡ waiting j s m → Queued y i s → holder y s ≡ by j → m ≡ y .section s .change
   view-last {i} {j} {s} {m} e q h =
-      elim (cases-eq m (y .section s .change))
-      [ inl d ↦ d
-      | inr d ↦ absurd (let v = p .view i j s m e in p .kept s .turn i m j q (v .3 q) (omega arith) (v .1) .0 h) ]
+      elim (cases-eq m (y .section s .change)) [
+        | inl d ↦ d
+        | inr d ↦ absurd (let v = p .view i j s m e in p .kept s .turn i m j q (v .3 q) (omega arith) (v .1) .0 h)
+      ]
 
-
-  busy-numbered : (i s : ℕ) → About s (mode y i) → i < engines
+  pub busy-numbered : (i s : ℕ) → About s (mode y i) → i < engines
   busy-numbered i s a = elim (p .numbered i) [ inl e ↦ absurd (rw e at a) | inr l ↦ l ]
 
   -- engine by engine, before what became of the sections
@@ -177,9 +178,11 @@ module _ {engines : ℕ} {y : Yard} (p : Placed engines y) where
       was : Queued y i s ⊎ ((mode y i ≡ asking s) × (holder y s ≡ by i → ⊥)) → About s (mode y i)
       was (inl m) = p .about i s m
       was (inr v) = rw (v .0)
+
       out : Settled y i (mode y i) → Queued y i s ⊎ ((mode y i ≡ asking s) × (holder y s ≡ by i → ⊥)) → ⊥
       out d (inl m) = settled-out d m
       out d (inr v) = v .1 (rw (v .0) at d)
+
       go : {e : Engine} → Did engines y act i e → Queued y i s ⊎ ((mode y i ≡ asking s) × (holder y s ≡ by i → ⊥)) → About s (mode y i) → About s (e .mode)
       go nothing v a = a
       go (asked t g) v a = absurd (out (g .1) v)
@@ -189,7 +192,7 @@ module _ {engines : ℕ} {y : Yard} (p : Placed engines y) where
       go (found j t g n) v a = rw (g .1 .1) at a
 
   -- who waits, as its home has it, stood in the queue or had the section, and its view was true since it came
-  viewed : {act : Act} {i j s m : ℕ} {e : Engine} → Did engines y act i e → e .mode ≡ waiting j s m →
+  pub viewed : {act : Act} {i j s m : ℕ} {e : Engine} → Did engines y act i e → e .mode ≡ waiting j s m →
       (Queued y i s ⊎ (holder y s ≡ by i)) × ((mode y i ≡ leaving s → ⊥) × (mode y i ≡ freeing s → ⊥)) ×
       ((i ≡ j → ⊥) × (y .section s .past m ≡ by j) × (m ≤ y .section s .change) × (Queued y i s → y .section s .came i ≤ m))
   viewed {i} {j} {s} {m} nothing e = (p .stands i j s m e, (waiting≢leaving e, waiting≢freeing e), p .view i j s m e)
@@ -199,17 +202,20 @@ module _ {engines : ℕ} {y : Yard} (p : Placed engines y) where
     where
       at-t : s ≡ t
       at-t = cc
+
       at-k : j ≡ k
       at-k = cc
+
       at-n : m ≡ n
       at-n = cc
+
       told : (Queued y i t ⊎ (holder y t ≡ by i)) × ((mode y i ≡ leaving t → ⊥) × (mode y i ≡ freeing t → ⊥)) ×
           ((i ≡ k → ⊥) × (y .section t .past n ≡ by k) × (n ≤ y .section t .change) × (Queued y i t → y .section t .came i ≤ n))
       told = (g .1, (unheard-about t n (mode y i) (g .0) .1 t, λ q. rw q at (g .0)), (g .2 .3, g .2 .2, g .2 .1, λ q. g .2 .0))
   viewed {i} {j} {s} {m} (heard k v g) e = (p .stands i j s m e, (waiting≢leaving e, waiting≢freeing e), p .view i j s m e)
   viewed (found k t g n) e = absurd (waiting≢leaving e refl)
 
-  stand-after : {i s : ℕ} {x : Section} → Moved engines y s x → (mode y i ≡ leaving s → ⊥) × (mode y i ≡ freeing s → ⊥) →
+  pub stand-after : {i s : ℕ} {x : Section} → Moved engines y s x → (mode y i ≡ leaving s → ⊥) × (mode y i ≡ freeing s → ⊥) →
       Queued y i s ⊎ (holder y s ≡ by i) → List·Memᴰ i (x .queue) ⊎ (x .holder ≡ by i)
   stand-after d n (inl q) = elim (in-after d q) [ inl m ↦ inl m | inr r ↦ elim r [ inl h ↦ inr (h .0) | inr l ↦ absurd (n .0 l) ] ]
   stand-after d n (inr h) = elim (holder-after d h) [ inl k ↦ inr k | inr f ↦ absurd (n .1 f) ]
@@ -220,6 +226,7 @@ module _ {engines : ℕ} {y : Yard} (p : Placed engines y) where
       now : Queued y i s ⊎ (holder y s ≡ by i) → Queued y i s
       now (inl o) = o
       now (inr h) = elim (in-before d q) [ inl o ↦ o | inr w ↦ absurd (w .1 h) ]
+
       go : Queued y i s → x .came i ≤ m
       go o = rw (came-kept d o) (c o)
 
@@ -238,9 +245,10 @@ module _ {engines : ℕ} {y : Yard} (p : Placed engines y) where
         about = λ i s q. about-did (did engines y a g i) (in-before (moved engines y a g s) q);
         stands = λ i j s m e. let v = viewed (did engines y a g i) e in stand-after (moved engines y a g s) (v .1) (v .0);
         view =
-          λ i j s m e. let v = viewed (did engines y a g i) e in let d = moved engines y a g s in
-          (v .2 .0, rw (past-kept d (v .2 .2)) (v .2 .1), (let l = change-rises d in let k = v .2 .2 in omega arith), came-after d (v .0) (v .2 .3));
+            λ i j s m e. let v = viewed (did engines y a g i) e in let d = moved engines y a g s in
+            (v .2 .0, rw (past-kept d (v .2 .2)) (v .2 .1), (let l = change-rises d in let k = v .2 .2 in omega arith), came-after d (v .0) (v .2 .3));
         numbered = λ i. numbered-did (did engines y a g i);
         holders =
-          λ i s h. elim (holder-before (moved engines y a g s) h)
-          [ inl o ↦ p .holders i s o | inr w ↦ elim w [ inl q ↦ busy-numbered i s (p .about i s q) | inr e ↦ busy-numbered i s (rw e) ] ] }
+            λ i s h. elim (holder-before (moved engines y a g s) h)
+            [ inl o ↦ p .holders i s o | inr w ↦ elim w [ inl q ↦ busy-numbered i s (p .about i s q) | inr e ↦ busy-numbered i s (rw e) ] ];
+      }

@@ -3,16 +3,17 @@
 use mathlib.Core.Path.{_≡_, refl, sym, _∙_}
 use mathlib.Core.Logic.{_⊎_, inl, inr}
 use mathlib.Core.List.{List, [], _∷_, List·Memᴰ, List·Memᴰ·head, List·Memᴰ·tail}
-use Prim.Native.Nat.{ℕ, _%_, _<_, _≤_}
+use Prim.Native.Nat.{ℕ, _<_, _≤_}
 use native.Mathlib.Omega.{arith}
-use Rattle.yard.specs.Yard.{Holder, free, by, Section, asking, Engine, Yard, start, holder, mode, shown, own, count, Queued, Told, first, rest, Act, asks, frees, takes, joins, passes, leaves, begins, tells, hears, finds, May, after, Run, still, then, Reach, Distinct}
-use Rattle.yard.specs.Order.{OneAtATime, OnePlace, SomebodyHas, FirstGets, Upto, NoOvertaking, Behind, OwnDiffer, ShownRises, Taken, OnlyTaken}
-use Rattle.yard.proofs.Queues.{upto-end, upto-without, at-put}
+use Rattle.std.proofs.shelf.Tests.{cases-eq}
+use Rattle.yard.specs.Yard.{Holder, free, by, Section, asking, Engine, Yard, holder, mode, shown, Told, first, rest, Act, May, after, Run, still, then}
+use Rattle.yard.specs.Order.{OneAtATime, OnePlace, SomebodyHas, FirstGets, Upto, from, past, NoOvertaking, Behind, TurnHasCome, OwnDiffer, ShownRises, Taken, OnlyTaken}
+use Rattle.yard.proofs.Queues.{upto-end, upto-without}
 use Rattle.yard.proofs.InTurn.{by≢free, upto-rest}
 use Rattle.yard.proofs.Views.{Moved, unmoved, was-taken, was-joined, was-passed, was-left, moved, Did, nothing, asked, freed, began, heard, found, did, told-was}
 use Rattle.yard.proofs.Places.{Placed, same-holder, holder-after, one-place}
 use Rattle.yard.proofs.Signs.{shown-rises}
-use Rattle.yard.proofs.Sound.{Sound, sound, sound-run}
+use Rattle.yard.proofs.Sound.{sound, sound-run}
 
 pub one-at-a-time : OneAtATime
 one-at-a-time engines y r a g i s h = holder-after (moved engines y a g s) h
@@ -25,8 +26,10 @@ somebody-has engines y r i s m = go (holder y s) refl
   where
     k : Placed engines y
     k = sound r .places
+
     empty : (q : List ℕ) → q ≡ [] → List·Memᴰ i q → ⊥
     empty q e n = elim (rw e at n) [ ]
+
     go : (h : Holder) → holder y s ≡ h → (j : ℕ) × (holder y s ≡ by j) × (i ≡ j → ⊥)
     go free e = absurd (empty _ (k .kept s .had e) m)
     go (by j) e = (j, e, λ p. k .kept s .apart j e (rw (← p) m))
@@ -37,6 +40,7 @@ first-gets engines y r a g i s un now = go (moved engines y a g s) now
     front : (q : List ℕ) → first q ≡ by i → q ≡ i ∷ rest q
     front [] e = absurd (by≢free free i e refl)
     front (x ∷ q) e = rw (same-holder refl e)
+
     go : {x : Section} → Moved engines y s x → x .holder ≡ by i → (y .section s .queue ≡ i ∷ x .queue) ⊎ ((holder y s ≡ free) × (y .section s .queue ≡ []) × (mode y i ≡ asking s))
     go unmoved h = absurd (un h)
     go (was-taken k f) h = inr (f .1, sound r .places .kept s .had (f .1), rw (same-holder h refl) (f .0))
@@ -56,6 +60,23 @@ no-overtaking engines y r a g i k s m u = go (moved engines y a g s) u
 
 pub behind : Behind
 behind engines y r i s n h = sound r .places .kept s .turn i n h
+
+upto-self : {i : ℕ} {q : List ℕ} → List·Memᴰ i q → Upto i i q
+upto-self (List·Memᴰ·head e) = from e (List·Memᴰ·head e)
+upto-self (List·Memᴰ·tail m) = past (upto-self m)
+
+pub turn-has-come : TurnHasCome
+turn-has-come engines y r i j s m n e lo hi h =
+    elim (p .stands i j s m e) [
+      | inr o ↦ o
+      | inl q ↦ elim (cases-eq n (y .section s .change)) [
+        | inl d ↦ sym (p .kept s .now) ∙ (rw d at h)
+        | inr d ↦ absurd (let c = p .view i j s m e .3 q in p .kept s .turn i n i q (omega arith) (omega arith) h .1 (upto-self q))
+      ]
+    ]
+  where
+    p : Placed engines y
+    p = sound r .places
 
 pub own-differ : OwnDiffer
 own-differ engines y r =
@@ -85,6 +106,7 @@ taken-after {engines} {y} {acts} p old a g = (λ i l. shows i l (did engines y a
     shows i l (began s j m u f b) = inr (i, s, j, m, List·Memᴰ·head (sym b), f .3 .1)
     shows i l (heard j v f) = taken-more a (old .1 i _ j v (f .0))
     shows i l (found j s f z) = taken-more a (old .0 i l)
+
     told : (x c j v : ℕ) → Told (after y a) x c j v → Taken engines (a ∷ acts) v
     told x c j v t =
         elim (told-was engines y a g x c j v t)

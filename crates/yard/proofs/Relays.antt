@@ -2,13 +2,12 @@
 -- Assumes nothing.
 use mathlib.Core.Path.{_≡_, refl, sym, ap, _∙_}
 use mathlib.Core.Logic.{_⊎_, inl, inr}
-use mathlib.Core.List.{List, [], _∷_, List·Memᴰ, List·Memᴰ·head, List·Memᴰ·tail}
 use Prim.Native.Nat.{ℕ, suc, _%_, _<_, _≤_}
 use native.Mathlib.Omega.{arith}
-use Rattle.yard.specs.Yard.{Holder, by, Section, Mode, none, asking, waiting, freeing, leaving, Engine, Yard, start, holder, mode, count, shown, own, Queued, HasBegun, Told, Act, finds, May, after}
+use Rattle.yard.specs.Yard.{by, Mode, none, asking, waiting, freeing, leaving, Engine, Yard, start, holder, mode, count, shown, own, Queued, HasBegun, Told, Act, finds, May, after}
 use Rattle.yard.proofs.Views.{moved, Did, nothing, asked, freed, began, heard, found, did, begun-was, told-was}
-use Rattle.yard.proofs.Places.{Placed, placed-after, same-holder, in-after, holder-after, settled-out, view-last, waiting≢asking, waiting≢freeing, waiting≢leaving}
-use Rattle.yard.proofs.Signs.{Signed, signed-after, own-was, shown-was}
+use Rattle.yard.proofs.Places.{Placed, placed-after, same-holder, in-after, holder-after, settled-out, view-last, waiting≢leaving}
+use Rattle.yard.proofs.Signs.{Signed, signed-after, shown-was}
 
 -- its own sign counts: it has begun to wait, or found a ring, and has called for nothing since
 abbrev pub Live : Mode → Type 0
@@ -50,10 +49,11 @@ relayed-start engines = record { shows = λ x z b l. absurd l; tells = λ x c j 
 module _ {engines : ℕ} {y : Yard} (p : Placed engines y) (a : Act) (g : May engines y a) where
   -- a wait stays while the holder doesn't free and the waiter doesn't leave
   pub wait-after : {x j s : ℕ} → Queued y x s → holder y s ≡ by j → (mode y j ≡ freeing s → ⊥) → (mode y x ≡ leaving s → ⊥) → Queued (after y a) x s × (holder (after y a) s ≡ by j)
-  wait-after {x} {j} {s} w h nf nl =
-      ( elim (in-after (moved engines y a g s) w)
-        [ inl m ↦ m | inr r ↦ elim r [ inl k ↦ absurd (nf (rw (same-holder h (k .1 .1)) (k .1 .2))) | inr l ↦ absurd (nl l) ] ]
-      , elim (holder-after (moved engines y a g s) h) [ inl k ↦ k | inr f ↦ absurd (nf f) ] )
+  wait-after {x} {j} {s} w h nf nl = (
+    elim (in-after (moved engines y a g s) w)
+        [ inl m ↦ m | inr r ↦ elim r [ inl k ↦ absurd (nf (rw (same-holder h (k .1 .1)) (k .1 .2))) | inr l ↦ absurd (nl l) ] ],
+    elim (holder-after (moved engines y a g s) h) [ inl k ↦ k | inr f ↦ absurd (nf f) ],
+  )
 
   -- who waits with the right view and doesn't find can only hear
   pub waiter-did : {act : Act} {x j s m : ℕ} {e : Engine} → Did engines y act x e → mode y x ≡ waiting j s m → Queued y x s → holder y s ≡ by j →
@@ -112,37 +112,44 @@ module _ {engines : ℕ} {y : Yard} (p : Placed engines y) (q : Signed engines y
 
     shows-after : (x z : ℕ) → x < engines → Live (mode (after y a) z) → shown (after y a) x ≡ own (after y a) z → (d : ℕ) × Relays (after y a) (own (after y a) z) d x
     shows-after x z b l w =
-        elim (live-was (did engines y a g z) l)
-        [ inl k ↦ rw (k .1) (shows-old x z _ refl (did engines y a g x) b l (k .0) (k .1) (w ∙ k .1))
-        | inr n ↦ elim (shown-was (did engines y a g x))
-          [ inl e ↦ absurd (let o = q .shown-low x z b (rw (sym e ∙ w) (n .1)) in let u = q .under z in let f = n .0 in omega arith)
-          | inr m ↦ elim m
-            [ inl o ↦ (0, rw (same-own {x = x} {z = z} b l (o .0 ∙ w)) (self refl l))
-            | inr t ↦ absurd (let o = q .told-low x _ (t .0) _ z (t .1) (rw w (n .1)) in let u = q .under z in let f = n .0 in omega arith) ] ] ]
+        elim (live-was (did engines y a g z) l) [
+          | inl k ↦ rw (k .1) (shows-old x z _ refl (did engines y a g x) b l (k .0) (k .1) (w ∙ k .1))
+          | inr n ↦ elim (shown-was (did engines y a g x)) [
+            | inl e ↦ absurd (let o = q .shown-low x z b (rw (sym e ∙ w) (n .1)) in let u = q .under z in let f = n .0 in omega arith)
+            | inr m ↦ elim m [
+              | inl o ↦ (0, rw (same-own {x = x} {z = z} b l (o .0 ∙ w)) (self refl l))
+              | inr t ↦ absurd (let o = q .told-low x _ (t .0) _ z (t .1) (rw w (n .1)) in let u = q .under z in let f = n .0 in omega arith)
+            ]
+          ]
+        ]
 
     tells-after : (x c j v z : ℕ) → Live (mode (after y a) z) → Told (after y a) x c j v → v ≡ own (after y a) z →
         ((d : ℕ) × Relays (after y a) (own (after y a) z) d j) × ((s : ℕ) → HasBegun (after y a) x c s → holder (after y a) s ≡ by j)
     tells-after x c j v z l t w =
-        elim (live-was (did engines y a g z) l)
-        [ inl k ↦ elim (told-was engines y a g x c j v t)
-          [ inl o ↦
-            (let f = r .tells x c j v z (k .0) o (w ∙ k .1) in
-            (rw (k .1) (f .0 .0, relays-after z l (k .1) (f .0 .1)), still (f .0 .1) (q .told-begun x c j v o) (f .1)))
-          | inr n ↦
-            (let s = n .1 .0 in let h = n .1 .1 in
-            let f = r .shows j z (p .holders j s (h .1)) (k .0) (sym (n .0) ∙ w ∙ k .1) in
-            (rw (k .1) (f .0, relays-after z l (k .1) (f .1)), still (f .1) (q .begun-low x c s (h .0)) (λ t b. rw (q .begun-one x c t s b (h .0)) (h .1)))) ]
-        | inr n ↦ absurd
-          (let u = q .under z in let f = n .0 in elim (told-was engines y a g x c j v t)
-          [ inl o ↦ (let b = q .told-low x c j v z o (rw w (n .1)) in omega arith)
-          | inr h ↦ (let b = q .shown-low j z (p .holders j (h .1 .0) (h .1 .1 .1)) (rw (sym (h .0) ∙ w) (n .1)) in let e = h .0 in omega arith) ]) ]
+        elim (live-was (did engines y a g z) l) [
+          | inl k ↦ elim (told-was engines y a g x c j v t) [
+            | inl o ↦
+                (let f = r .tells x c j v z (k .0) o (w ∙ k .1) in
+                (rw (k .1) (f .0 .0, relays-after z l (k .1) (f .0 .1)), still (f .0 .1) (q .told-begun x c j v o) (f .1)))
+            | inr n ↦
+                (let s = n .1 .0 in let h = n .1 .1 in
+                let f = r .shows j z (p .holders j s (h .1)) (k .0) (sym (n .0) ∙ w ∙ k .1) in
+                (rw (k .1) (f .0, relays-after z l (k .1) (f .1)), still (f .1) (q .begun-low x c s (h .0)) (λ t b. rw (q .begun-one x c t s b (h .0)) (h .1))))
+          ]
+          | inr n ↦ absurd
+              (let u = q .under z in let f = n .0 in elim (told-was engines y a g x c j v t) [
+                | inl o ↦ (let b = q .told-low x c j v z o (rw w (n .1)) in omega arith)
+                | inr h ↦ (let b = q .shown-low j z (p .holders j (h .1 .0) (h .1 .1 .1)) (rw (sym (h .0) ∙ w) (n .1)) in let e = h .0 in omega arith)
+              ])
+        ]
       where
         -- the section of that wait is still had by j
         still : {o d : ℕ} → Relays y o d j → c ≤ count y x → ((s : ℕ) → HasBegun y x c s → holder y s ≡ by j) → (s : ℕ) → HasBegun (after y a) x c s → holder (after y a) s ≡ by j
         still f b has s h =
-            elim (begun-was engines y a g x c s h)
-            [ inl o ↦ elim (holder-after (moved engines y a g s) (has s o)) [ inl k ↦ k | inr e ↦ absurd (live-not-freeing _ s (relays-live f) e) ]
-            | inr n ↦ absurd (let e = n .0 in omega arith) ]
+            elim (begun-was engines y a g x c s h) [
+              | inl o ↦ elim (holder-after (moved engines y a g s) (has s o)) [ inl k ↦ k | inr e ↦ absurd (live-not-freeing _ s (relays-live f) e) ]
+              | inr n ↦ absurd (let e = n .0 in omega arith)
+            ]
 
     pub relayed-after : Relayed engines (after y a)
     relayed-after = record { shows = shows-after; tells = tells-after }

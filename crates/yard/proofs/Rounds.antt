@@ -1,17 +1,16 @@
 -- Rings of true waits: who finds has its own sign back along one, all others of it only relay; and who is in one can't let go.
 -- Assumes nothing.
-use mathlib.Core.Path.{_≡_, refl, sym, ap, subst, _∙_}
+use mathlib.Core.Path.{_≡_, refl, sym, ap, subst}
 use mathlib.Core.Logic.{_⊎_, inl, inr}
 use mathlib.Core.List.{List, [], _∷_, List·Memᴰ, List·Memᴰ·head, List·Memᴰ·tail}
 use Prim.Native.Nat.{ℕ, zero, suc, _<_, _≤_}
 use native.Mathlib.Omega.{arith}
-use Rattle.yard.specs.Yard.{Holder, by, Mode, none, asking, waiting, freeing, leaving, Engine, Yard, holder, mode, count, shown, own, Queued, Told, WaitsOn, Finds, Act, finds, May, after, Run, still, then, Reach, WaitsFor, Along, one, more, Distinct, Ring}
+use Rattle.yard.specs.Yard.{Mode, none, asking, waiting, freeing, leaving, Engine, Yard, mode, shown, own, Queued, Told, WaitsOn, Finds, Act, finds, May, after, Run, still, then, WaitsFor, Along, one, more, Distinct, Ring}
 use Rattle.yard.specs.Rings.{Real, Highest, Alone, OneLeaves, Stays, StaysUntilFound, OldWords}
 use Rattle.yard.proofs.Views.{moved, Did, nothing, asked, freed, began, heard, found, did}
 use Rattle.yard.proofs.Places.{Placed, same-holder, one-place, queued-not-freeing, in-after, holder-after, waiting≢leaving}
-use Rattle.yard.proofs.Signs.{Signed}
-use Rattle.yard.proofs.Relays.{Live, Relays, self, via, relays-live, own-one, Relayed}
-use Rattle.yard.proofs.Sound.{Sound, sound, sound-run, sound-after}
+use Rattle.yard.proofs.Relays.{Live, Relays, self, via, own-one}
+use Rattle.yard.proofs.Sound.{Sound, sound, sound-run}
 
 -- who waits, waits for one
 pub waits-one : {engines : ℕ} {y : Yard} (p : Placed engines y) {x j k : ℕ} → WaitsFor y x j → WaitsFor y x k → j ≡ k
@@ -39,6 +38,7 @@ walk {y} {o} z end (suc d) {x} (via j s m e q h lo hi r) = go (walk z end d r)
         near : (l : ℕ) → List·Memᴰ l (j ∷ w .0) → (e : ℕ) × (0 < e) × (e ≤ suc d) × Relays y o e l
         near l (List·Memᴰ·head p) = (suc d, omega arith, omega arith, rw p r)
         near l (List·Memᴰ·tail n) = (let f = w .3 l n in (f .0, f .1, (let b = f .2 in omega arith), f .3))
+
         again : ((e : ℕ) × (0 < e) × (e ≤ suc d) × Relays y o e x) → ⊥
         again f = let b = f .2 in let p = relays-one (f .3) (via j s m e q h lo hi r) in omega arith
 
@@ -73,21 +73,23 @@ module _ {engines : ℕ} {y : Yard} (w : Sound engines y) where
         wait = (s, elim (w .places .stands i j s _ m) [ inl q ↦ q | inr h ↦ absurd (ne (same-holder h has)) ], has);
         other = ne;
         dist = t .0 .0;
-        chain = t .0 .1 }
+        chain = t .0 .1;
+      }
 
   end-is : {i : ℕ} → Live (mode y i) → (x : ℕ) → Relays y (own y i) 0 x → x ≡ i
   end-is l x (self e k) = own-one (w .places) (w .signs) k l e
 
-  pub real-at : {i j s : ℕ} → Finds y i j s → (is : List ℕ) × Ring y i is
+  pub real-at : {i j s : ℕ} → Finds y i j s → (is : List ℕ) × Ring y i (j ∷ is)
   real-at {i} {j} {s} f = go (b .dist) (b .chain)
     where
       b : Back i j s
       b = back f
-      go : (d : ℕ) → Relays y (own y i) d j → (is : List ℕ) × Ring y i is
+
+      go : (d : ℕ) → Relays y (own y i) d j → (is : List ℕ) × Ring y i (j ∷ is)
       go zero r = absurd (b .other (sym (end-is (b .live) j r)))
       go (suc d) r =
           let k = walk i (end-is (b .live)) d r in
-          (j ∷ k .0, (more (b .wait) (k .1), ((λ m. home m), k .2)))
+          (k .0, (more (b .wait) (k .1), ((λ m. home m), k .2)))
         where
           home : List·Memᴰ i (j ∷ walk i (end-is (b .live)) d r .0) → ⊥
           home (List·Memᴰ·head e) = b .other e
@@ -115,6 +117,7 @@ module _ {engines : ℕ} {y : Yard} (w : Sound engines y) where
     where
       b : Back i j s
       b = back f
+
       go : {d : ℕ} → Relays y (own y i) d l → ((k t m : ℕ) × (mode y l ≡ waiting k t m)) × (own y l < own y i) × (own y i ≤ shown y l)
       go (self e k) = absurd (r .1 .0 (rw (← (own-one (w .places) (w .signs) k (b .live) e)) m))
       go (via k t n e q h lo hi c) = ((k, t, n, e), lo, hi)
@@ -125,6 +128,7 @@ module _ {engines : ℕ} {y : Yard} (w : Sound engines y) where
     where
       l : Live (mode y z)
       l = rw (o .1) tt
+
       go : {d : ℕ} → Relays y (own y z) d j → ⊥
       go (self f n) = out s (rw (own-one (w .places) (w .signs) n l f) q)
       go (via u r m f a h lo hi c) = out r a
@@ -156,17 +160,19 @@ module _ {engines : ℕ} {y : Yard} (p : Placed engines y) (a : Act) (g : May en
   -- who waits for one that waits itself goes on waiting for it, unless it leaves
   wait-stays : {i j t : ℕ} → (n : WaitsFor y i j) → Queued y j t → WaitsFor (after y a) i j ⊎ (mode y i ≡ leaving (n .0))
   wait-stays {i} {j} n q =
-      elim (in-after (moved engines y a g (n .0)) (n .1))
-      [ inl m ↦ inl (n .0, m, elim (holder-after (moved engines y a g (n .0)) (n .2)) [ inl h ↦ h | inr f ↦ absurd (queued-not-freeing p q f) ])
-      | inr r ↦ elim r
-        [ inl h ↦ absurd (queued-not-freeing p {t = n .0} q (rw (same-holder (n .2) (h .1 .1)) (h .1 .2))) | inr l ↦ inr l ] ]
+      elim (in-after (moved engines y a g (n .0)) (n .1)) [
+        | inl m ↦ inl (n .0, m, elim (holder-after (moved engines y a g (n .0)) (n .2)) [ inl h ↦ h | inr f ↦ absurd (queued-not-freeing p q f) ])
+        | inr r ↦ elim r
+            [ inl h ↦ absurd (queued-not-freeing p {t = n .0} q (rw (same-holder (n .2) (h .1 .1)) (h .1 .2))) | inr l ↦ inr l ]
+      ]
 
   along-stays : {i k t : ℕ} {is : List ℕ} → Along y i is k → Queued y k t → Along (after y a) i is k ⊎ OneLeaves y (i ∷ is)
   along-stays {i} (one n) q = elim (wait-stays n q) [ inl m ↦ inl (one m) | inr l ↦ inr (i, n .0, List·Memᴰ·head refl, l) ]
   along-stays {i} (more n r) q =
-      elim (wait-stays n (along-queued r .1))
-      [ inl m ↦ elim (along-stays r q) [ inl v ↦ inl (more m v) | inr o ↦ inr (leaves-more y i o) ]
-      | inr l ↦ inr (i, n .0, List·Memᴰ·head refl, l) ]
+      elim (wait-stays n (along-queued r .1)) [
+        | inl m ↦ elim (along-stays r q) [ inl v ↦ inl (more m v) | inr o ↦ inr (leaves-more y i o) ]
+        | inr l ↦ inr (i, n .0, List·Memᴰ·head refl, l)
+      ]
 
   pub ring-stays : {i : ℕ} {is : List ℕ} → Ring y i is → Ring (after y a) i is ⊎ OneLeaves y (i ∷ is)
   ring-stays r = elim (along-stays (r .0) (along-queued (r .0) .1)) [ inl v ↦ inl (v, r .1) | inr o ↦ inr o ]
@@ -191,9 +197,10 @@ is-leaving (leaving s) = inl (s, refl)
 one-leaves : (y : Yard) (is : List ℕ) → OneLeaves y is ⊎ (OneLeaves y is → ⊥)
 one-leaves y [] = inr (λ o. elim (o .2) [ ])
 one-leaves y (i ∷ is) =
-    elim (is-leaving (mode y i))
-    [ inl l ↦ inl (i, l .0, List·Memᴰ·head refl, l .1)
-    | inr n ↦ elim (one-leaves y is) [ inl o ↦ inl (leaves-more y i o) | inr f ↦ inr (λ o. neither n f (o .0) (o .1) (o .2) (o .3)) ] ]
+    elim (is-leaving (mode y i)) [
+      | inl l ↦ inl (i, l .0, List·Memᴰ·head refl, l .1)
+      | inr n ↦ elim (one-leaves y is) [ inl o ↦ inl (leaves-more y i o) | inr f ↦ inr (λ o. neither n f (o .0) (o .1) (o .2) (o .3)) ]
+    ]
   where
     neither : ((t : ℕ) → mode y i ≡ leaving t → ⊥) → (OneLeaves y is → ⊥) → (k t : ℕ) → List·Memᴰ k (i ∷ is) → mode y k ≡ leaving t → ⊥
     neither n f k t (List·Memᴰ·head e) l = n t (rw (← e) l)
@@ -214,9 +221,10 @@ Rests z i is acts = (Ring z i is × (OneLeaves z (i ∷ is) → ⊥)) ⊎ ((k j 
 rests-after : {engines : ℕ} {y : Yard} (p : Placed engines y) (a : Act) (g : May engines y a) {acts : List Act} (i : ℕ) (is : List ℕ) → Rests y i is acts → Rests (after y a) i is (a ∷ acts)
 rests-after p a g i is (inr f) = inr (f .0, f .1, f .2, f .3, List·Memᴰ·tail (f .4))
 rests-after {engines} {y} p a g {acts} i is (inl h) =
-    elim (ring-stays p a g (h .0))
-    [ inr o ↦ absurd (h .1 o)
-    | inl r ↦ elim (one-leaves (after y a) (i ∷ is)) [ inr f ↦ inl (r, f) | inl o ↦ inr (who (o .0) (o .1) (o .2) (o .3)) ] ]
+    elim (ring-stays p a g (h .0)) [
+      | inr o ↦ absurd (h .1 o)
+      | inl r ↦ elim (one-leaves (after y a) (i ∷ is)) [ inr f ↦ inl (r, f) | inl o ↦ inr (who (o .0) (o .1) (o .2) (o .3)) ]
+    ]
   where
     who : (k t : ℕ) → List·Memᴰ k (i ∷ is) → mode (after y a) k ≡ leaving t → (k j s : ℕ) × List·Memᴰ k (i ∷ is) × List·Memᴰ (finds k j s) (a ∷ acts)
     who k t m l =

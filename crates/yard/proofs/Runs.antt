@@ -1,22 +1,23 @@
 -- Runs, act by act: one to a ring of three and its finding, and one for each rule that shows what comes of dropping it.
 -- Assumes nothing.
 use mathlib.Core.Path.{_≡_, refl, sym, _∙_}
-use mathlib.Core.Logic.{_⊎_, inl, inr}
+use mathlib.Core.Logic.{inl}
 use mathlib.Core.Bool.{Bool, true, false, cond}
 use mathlib.Core.List.{List, [], _∷_, List·Memᴰ, List·Memᴰ·head, List·Memᴰ·tail}
-use Prim.Native.Nat.{ℕ, suc, _<_}
+use Prim.Native.Nat.{ℕ, suc, _<_, _≤_}
 use native.Mathlib.Omega.{arith}
 use lib.Dec.{eqb}
 use Rattle.std.proofs.shelf.Tests.{false≢true, eq-eqb}
-use Rattle.yard.specs.Yard.{free, by, Section, waiting, Yard, Begun, Telling, start, count, shown, own, Queued, put, showing, atEngine, Act, asks, frees, takes, joins, passes, leaves, begins, tells, hears, finds, after, Run, still, then, WaitsFor, Along, one, more, Ring}
-use Rattle.yard.specs.Found.{Heard}
-use Rattle.yard.specs.Needed.{Slip, tells-late, signs-early, takes-old-for-new, keeps-sign, shows-own-again, silent-once-freed, TellingAfterFreeing, SignBeforeQueue, EarlierCount, KeptSign, OwnSignAgain, RingOfThree}
+use Rattle.yard.specs.Yard.{free, by, Section, waiting, Yard, Begun, Telling, start, count, shown, own, Queued, put, showing, atEngine, Act, asks, frees, takes, joins, passes, begins, tells, hears, finds, after, Run, still, then, WaitsFor, Along, one, more, Ring}
+use Rattle.yard.specs.Found.{Heard, Passed, passed, shows-it, finds-it, first, next}
+use Rattle.yard.specs.Needed.{Slip, tells-late, signs-early, takes-old-for-new, keeps-sign, shows-own-again, silent-once-freed, TellingAfterFreeing, SignBeforeQueue, EarlierCount, KeptSign, OwnSignAgain, RingOfThree, RoundCanBeTold}
 use Rattle.yard.proofs.Queues.{at-put}
 use Rattle.yard.proofs.InTurn.{by≢free}
 use Rattle.yard.proofs.Places.{Placed, placed-after, same-holder}
 use Rattle.yard.proofs.Lost.{Above, never-found, placed-modes, put-mode, show-mode, placed-run}
 use Rattle.yard.proofs.Rounds.{waits-one, along-queued}
 use Rattle.yard.proofs.Sound.{sound}
+use Rattle.yard.proofs.Standing.{along-map}
 
 -- the yard after the acts, the last one first in the list
 abbrev play : Yard → List Act → Yard
@@ -62,15 +63,17 @@ of-two y i k a b l (List·Memᴰ·head e) = rw e a
 of-two y i k a b l (List·Memᴰ·tail (List·Memᴰ·head e)) = rw e b
 of-two y i k a b l (List·Memᴰ·tail (List·Memᴰ·tail m)) = elim m [ ]
 
-abbrev three-acts : List Act
-three-acts = tells 2 1 0 0 ∷ hears 0 1 6 ∷ tells 0 1 64 1 ∷ hears 1 2 6 ∷ tells 1 1 1 2 ∷ begins 2 0 0 1 6 ∷ joins 2 0 ∷ asks 2 0 ∷ begins 1 1 2 1 5 ∷ joins 1 1 ∷ asks 1 1 ∷ begins 0 64 1 1 4 ∷ joins 0 64 ∷ asks 0 64 ∷ takes 2 1 ∷ asks 2 1 ∷ takes 1 64 ∷ asks 1 64 ∷ takes 0 0 ∷ asks 0 0 ∷ []
+-- 0 has section 0, 1 has 64, 2 has 1; 0 waits for 1, 1 for 2, 2 for 0
+abbrev ready-acts : List Act
+ready-acts =
+    begins 2 0 0 1 6 ∷ joins 2 0 ∷ asks 2 0 ∷ begins 1 1 2 1 5 ∷ joins 1 1 ∷ asks 1 1 ∷ begins 0 64 1 1 4 ∷ joins 0 64 ∷ asks 0 64 ∷ takes 2 1 ∷ asks 2 1 ∷ takes 1 64 ∷ asks 1 64 ∷ takes 0 0 ∷ asks 0 0 ∷ []
 
-abbrev three-end : Yard
-three-end = play start three-acts
+abbrev ready : Yard
+ready = play start ready-acts
 
-three-run : Run 4 start three-acts three-end
-three-run =
-    then (then (then (then (then (then (then (then (then (then (then (then (then (then (then (then (then (then (then (then still
+ready-run : Run 4 start ready-acts ready
+ready-run =
+    then (then (then (then (then (then (then (then (then (then (then (then (then (then (then still
     (asks 0 0) (omega arith, tt))
     (takes 0 0) (refl, refl))
     (asks 1 64) (omega arith, tt))
@@ -85,18 +88,69 @@ three-run =
     (begins 1 1 2 1 5) (refl, inl (List·Memᴰ·head refl), (omega arith, omega arith, refl, λ e. omega arith), (omega arith, refl)))
     (asks 2 0) (omega arith, refl))
     (joins 2 0) (refl, (0, refl, λ e. omega arith), absent-not-in 2 _ refl))
-    (begins 2 0 0 1 6) (refl, inl (List·Memᴰ·head refl), (omega arith, omega arith, refl, λ e. omega arith), (omega arith, refl)))
+    (begins 2 0 0 1 6) (refl, inl (List·Memᴰ·head refl), (omega arith, omega arith, refl, λ e. omega arith), (omega arith, refl))
+
+abbrev three-acts : List Act
+three-acts = tells 2 1 0 0 ∷ hears 0 1 6 ∷ tells 0 1 64 1 ∷ hears 1 2 6 ∷ tells 1 1 1 2 ∷ ready-acts
+
+abbrev three-end : Yard
+three-end = play start three-acts
+
+three-run : Run 4 start three-acts three-end
+three-run =
+    then (then (then (then (then ready-run
     (tells 1 1 1 2) (List·Memᴰ·tail (List·Memᴰ·head refl), refl))
     (hears 1 2 6) (List·Memᴰ·head refl, (1, (1, refl)), omega arith))
     (tells 0 1 64 1) (List·Memᴰ·tail (List·Memᴰ·tail (List·Memᴰ·head refl)), refl))
     (hears 0 1 6) (List·Memᴰ·head refl, (64, (1, refl)), omega arith))
     (tells 2 1 0 0) (List·Memᴰ·head refl, refl)
 
+-- the ring is there as soon as all wait, and tellings change no section
+abbrev ThreeRing : Yard → Type 0
+ThreeRing y = Ring y 2 (0 ∷ 1 ∷ [])
+
+ready-ring : ThreeRing ready
+ready-ring =
+    (more (0, List·Memᴰ·head refl, refl) (more (64, List·Memᴰ·head refl, refl) (one (1, List·Memᴰ·head refl, refl))), (absent-not-in 2 _ refl, (absent-not-in 0 _ refl, (absent-not-in 1 _ refl, tt))))
+
+three-ring : ThreeRing three-end
+three-ring = (along-map (λ x j m n. n) (ready-ring .0), ready-ring .1)
+
 pub ring-of-three : RingOfThree
-ring-of-three =
-    (three-acts, three-end, three-run,
-    (more (0, List·Memᴰ·head refl, refl) (more (64, List·Memᴰ·head refl, refl) (one (1, List·Memᴰ·head refl, refl))), (absent-not-in 2 _ refl, (absent-not-in 0 _ refl, (absent-not-in 1 _ refl, tt)))),
-    refl, refl, refl, (List·Memᴰ·head refl, (1, refl), refl))
+ring-of-three = (three-acts, three-end, three-run, three-ring, refl, refl, refl, (List·Memᴰ·head refl, (1, refl), refl))
+
+ready-heard : (l : ℕ) → List·Memᴰ l (2 ∷ 0 ∷ 1 ∷ []) → Heard ready l
+ready-heard l (List·Memᴰ·head e) = rw e (0, 0, (1, refl), List·Memᴰ·head refl, refl)
+ready-heard l (List·Memᴰ·tail (List·Memᴰ·head e)) = rw e (1, 64, (1, refl), List·Memᴰ·head refl, refl)
+ready-heard l (List·Memᴰ·tail (List·Memᴰ·tail (List·Memᴰ·head e))) = rw e (2, 1, (1, refl), List·Memᴰ·head refl, refl)
+ready-heard l (List·Memᴰ·tail (List·Memᴰ·tail (List·Memᴰ·tail m))) = elim m [ ]
+
+ready-high : (l : ℕ) → List·Memᴰ l (0 ∷ 1 ∷ []) → own ready l ≤ own ready 2
+ready-high l (List·Memᴰ·head e) = rw e (omega arith)
+ready-high l (List·Memᴰ·tail (List·Memᴰ·head e)) = rw e (omega arith)
+ready-high l (List·Memᴰ·tail (List·Memᴰ·tail m)) = elim m [ ]
+
+-- each telling comes to the next at once
+abbrev once : Yard
+once = after (after ready (tells 1 1 1 2)) (hears 1 2 6)
+
+abbrev twice : Yard
+twice = after (after once (tells 0 1 64 1)) (hears 0 1 6)
+
+abbrev told : Yard
+told = after twice (tells 2 1 0 0)
+
+pass-one : Passed 4 ready 2 1 (hears 1 2 6 ∷ tells 1 1 1 2 ∷ []) once
+pass-one = passed still 1 (List·Memᴰ·tail (List·Memᴰ·head refl), refl) still (shows-it refl (List·Memᴰ·head refl, (1, (1, refl)), omega arith))
+
+pass-two : Passed 4 once 1 0 (hears 0 1 6 ∷ tells 0 1 64 1 ∷ []) twice
+pass-two = passed still 64 (List·Memᴰ·tail (List·Memᴰ·tail (List·Memᴰ·head refl)), refl) still (shows-it refl (List·Memᴰ·head refl, (64, (1, refl)), omega arith))
+
+pass-three : Passed 4 twice 0 2 (finds 2 0 0 ∷ tells 2 1 0 0 ∷ []) (after told (finds 2 0 0))
+pass-three = passed still 0 (List·Memᴰ·head refl, refl) still (finds-it 0 refl refl (List·Memᴰ·head refl, (1, refl), refl))
+
+pub round-can-be-told : RoundCanBeTold
+round-can-be-told = (ready, (ready-acts, ready-run), ready-ring, ready-heard, ready-high, (_, _, next (next (first pass-one) pass-two) pass-three))
 
 abbrev late-acts : List Act
 late-acts = hears 0 1 4 ∷ tells 0 1 1 1 ∷ begins 0 1 1 1 3 ∷ joins 0 1 ∷ asks 0 1 ∷ passes 0 0 ∷ frees 0 0 ∷ begins 1 0 0 1 4 ∷ joins 1 0 ∷ asks 1 0 ∷ joins 2 0 ∷ asks 2 0 ∷ takes 1 1 ∷ asks 1 1 ∷ takes 0 0 ∷ asks 0 0 ∷ []
@@ -131,11 +185,17 @@ late-placed : Placed 3 (after late-end (tells 1 1 0 0))
 late-placed = placed-told (sound (late-acts, late-run) .places) _ _
 
 pub telling-after-freeing : TellingAfterFreeing
-telling-after-freeing =
-    (after late-end (tells 1 1 0 0),
-    record { before = late-acts; here = late-end; come = late-run; slipped = after late-end (tells 1 1 0 0); slip = late-slip; later = []; gone = still },
-    (1, 0, 0, (List·Memᴰ·head refl, (1, refl), refl),
-    no-ring late-placed 1 2 (0, List·Memᴰ·head refl, refl) (λ s q. absent-not-in 2 (1 ∷ []) refl (rw (← (late-placed .about 2 s q)) at q))))
+telling-after-freeing = (
+  after late-end (tells 1 1 0 0),
+  record { before = late-acts; here = late-end; come = late-run; slipped = after late-end (tells 1 1 0 0); slip = late-slip; later = []; gone = still },
+  (
+    1,
+    0,
+    0,
+    (List·Memᴰ·head refl, (1, refl), refl),
+    no-ring late-placed 1 2 (0, List·Memᴰ·head refl, refl) (λ s q. absent-not-in 2 (1 ∷ []) refl (rw (← (late-placed .about 2 s q)) at q)),
+  ),
+)
 
 abbrev early-acts : List Act
 early-acts = asks 1 0 ∷ takes 1 1 ∷ asks 1 1 ∷ takes 0 0 ∷ asks 0 0 ∷ []
@@ -175,10 +235,11 @@ early-nowhere : (s : ℕ) → Queued after-early-end 1 s → ⊥
 early-nowhere = nowhere 1 _ _ _ refl (nowhere 1 _ _ _ refl (nowhere 1 _ _ _ refl (λ s m. elim m [ ])))
 
 pub sign-before-queue : SignBeforeQueue
-sign-before-queue =
-    (after-early-end,
-    record { before = early-acts; here = early-end; come = early-run; slipped = early-slipped; slip = signs-early 1 0 0 1 3 refl (omega arith) refl (λ e. omega arith) (omega arith) refl; later = after-early-acts; gone = after-early-run },
-    (1, 0, 0, (List·Memᴰ·head refl, (1, refl), refl), λ is r. early-nowhere (along-queued (r .0) .0) (along-queued (r .0) .1)))
+sign-before-queue = (
+  after-early-end,
+  record { before = early-acts; here = early-end; come = early-run; slipped = early-slipped; slip = signs-early 1 0 0 1 3 refl (omega arith) refl (λ e. omega arith) (omega arith) refl; later = after-early-acts; gone = after-early-run },
+  (1, 0, 0, (List·Memᴰ·head refl, (1, refl), refl), λ is r. early-nowhere (along-queued (r .0) .0) (along-queued (r .0) .1)),
+)
 
 abbrev old-acts : List Act
 old-acts = tells 2 1 0 0 ∷ hears 0 2 8 ∷ tells 0 1 2 2 ∷ begins 0 2 2 1 3 ∷ joins 0 2 ∷ asks 0 2 ∷ passes 0 1 ∷ frees 0 1 ∷ begins 2 1 0 1 8 ∷ joins 2 1 ∷ asks 2 1 ∷ joins 1 1 ∷ asks 1 1 ∷ takes 0 1 ∷ asks 0 1 ∷ takes 2 2 ∷ asks 2 2 ∷ takes 0 0 ∷ asks 0 0 ∷ passes 2 0 ∷ frees 2 0 ∷ passes 0 0 ∷ frees 0 0 ∷ begins 2 0 0 1 5 ∷ joins 2 0 ∷ asks 2 0 ∷ takes 0 0 ∷ asks 0 0 ∷ []
@@ -225,11 +286,17 @@ old-placed : Placed 3 old-slipped
 old-placed = placed-told (sound (old-acts, old-run) .places) _ _
 
 pub earlier-count : EarlierCount
-earlier-count =
-    (old-slipped,
-    record { before = old-acts; here = old-end; come = old-run; slipped = old-slipped; slip = takes-old-for-new 2 1 0 8 (List·Memᴰ·head refl); later = []; gone = still },
-    (2, 0, 1, (List·Memᴰ·head refl, (1, refl), refl),
-    no-ring old-placed 2 1 (1, List·Memᴰ·head refl, refl) (λ s q. absent-not-in 1 (2 ∷ []) refl (rw (← (old-placed .about 1 s q)) at q))))
+earlier-count = (
+  old-slipped,
+  record { before = old-acts; here = old-end; come = old-run; slipped = old-slipped; slip = takes-old-for-new 2 1 0 8 (omega arith) (List·Memᴰ·head refl); later = []; gone = still },
+  (
+    2,
+    0,
+    1,
+    (List·Memᴰ·head refl, (1, refl), refl),
+    no-ring old-placed 2 1 (1, List·Memᴰ·head refl, refl) (λ s q. absent-not-in 1 (2 ∷ []) refl (rw (← (old-placed .about 1 s q)) at q)),
+  ),
+)
 
 abbrev keep-acts : List Act
 keep-acts = passes 2 1 ∷ frees 2 1 ∷ hears 0 2 5 ∷ tells 0 1 1 2 ∷ begins 0 1 2 1 3 ∷ joins 0 1 ∷ asks 0 1 ∷ takes 0 2 ∷ asks 0 2 ∷ joins 1 1 ∷ asks 1 1 ∷ takes 2 1 ∷ asks 2 1 ∷ passes 1 0 ∷ frees 1 0 ∷ begins 2 0 1 1 5 ∷ joins 2 0 ∷ asks 2 0 ∷ takes 1 0 ∷ asks 1 0 ∷ []
@@ -267,7 +334,8 @@ keep-slipped =
       section = keep-end .section;
       engine = put 0 (record { mode = waiting 1 1 2; count = suc (count keep-end 0); shown = shown keep-end 0; own = own keep-end 0 }) (keep-end .engine);
       begun = record { engine = 0; count = suc (count keep-end 0); section = 1 } ∷ keep-end .begun;
-      told = keep-end .told }
+      told = keep-end .told;
+    }
 
 abbrev after-keep-acts : List Act
 after-keep-acts = hears 1 0 5 ∷ tells 1 1 2 0 ∷ begins 1 2 0 1 4 ∷ joins 1 2 ∷ asks 1 2 ∷ []
@@ -288,8 +356,8 @@ keep-placed : Placed 3 after-keep-end
 keep-placed =
     placed-run
     (placed-modes
-      (placed-after (sound (keep-acts, keep-run) .places) (begins 0 1 1 2 6) ((refl, omega arith), inl (List·Memᴰ·head refl), (omega arith, omega arith, refl, λ e. omega arith), (omega arith, refl)))
-      _ _ _ (λ x. put-mode 0 _ _ (keep-end .engine) x refl))
+    (placed-after (sound (keep-acts, keep-run) .places) (begins 0 1 1 2 6) ((refl, omega arith), inl (List·Memᴰ·head refl), (omega arith, omega arith, refl, λ e. omega arith), (omega arith, refl)))
+    _ _ _ (λ x. put-mode 0 _ _ (keep-end .engine) x refl))
     after-keep-run
 
 keep-ring : Ring after-keep-end 0 (1 ∷ [])
@@ -299,10 +367,11 @@ keep-above : Above after-keep-end (0 ∷ 1 ∷ [])
 keep-above = of-two after-keep-end 0 1 ((1, 1, (2, refl), List·Memᴰ·head refl, refl), omega arith) ((0, 2, (1, refl), List·Memᴰ·head refl, refl), omega arith)
 
 pub kept-sign : KeptSign
-kept-sign =
-    (after-keep-end,
-    record { before = keep-acts; here = keep-end; come = keep-run; slipped = keep-slipped; slip = keeps-sign 0 1 1 2 (refl, omega arith) (List·Memᴰ·head refl) (omega arith) refl (λ e. omega arith); later = after-keep-acts; gone = after-keep-run },
-    (0, 1 ∷ [], keep-ring, keep-above, never-found keep-placed 0 (1 ∷ []) keep-ring keep-above))
+kept-sign = (
+  after-keep-end,
+  record { before = keep-acts; here = keep-end; come = keep-run; slipped = keep-slipped; slip = keeps-sign 0 1 1 2 (refl, omega arith) (List·Memᴰ·head refl) (omega arith) (omega arith) refl (λ e. omega arith); later = after-keep-acts; gone = after-keep-run },
+  (0, 1 ∷ [], keep-ring, keep-above, never-found keep-placed 0 (1 ∷ []) keep-ring keep-above),
+)
 
 abbrev again-acts : List Act
 again-acts = passes 2 0 ∷ frees 2 0 ∷ hears 1 0 8 ∷ tells 1 1 1 0 ∷ begins 1 1 0 1 4 ∷ joins 1 1 ∷ asks 1 1 ∷ takes 1 2 ∷ asks 1 2 ∷ hears 0 2 8 ∷ tells 0 1 0 2 ∷ begins 0 0 2 3 3 ∷ joins 0 0 ∷ asks 0 0 ∷ takes 0 1 ∷ asks 0 1 ∷ passes 1 0 ∷ frees 1 0 ∷ begins 2 0 1 2 8 ∷ passes 0 0 ∷ frees 0 0 ∷ begins 2 0 0 1 5 ∷ joins 2 0 ∷ asks 2 0 ∷ joins 1 0 ∷ asks 1 0 ∷ takes 0 0 ∷ asks 0 0 ∷ []
@@ -370,7 +439,8 @@ again-above : Above after-again-end (0 ∷ 1 ∷ [])
 again-above = of-two after-again-end 0 1 ((1, 2, (1, refl), List·Memᴰ·head refl, refl), omega arith) ((0, 1, (1, refl), List·Memᴰ·head refl, refl), omega arith)
 
 pub own-sign-again : OwnSignAgain
-own-sign-again =
-    (after-again-end,
-    record { before = again-acts; here = again-end; come = again-run; slipped = again-slipped; slip = shows-own-again 0; later = after-again-acts; gone = after-again-run },
-    (0, 1 ∷ [], again-ring, again-above, never-found again-placed 0 (1 ∷ []) again-ring again-above))
+own-sign-again = (
+  after-again-end,
+  record { before = again-acts; here = again-end; come = again-run; slipped = again-slipped; slip = shows-own-again 0; later = after-again-acts; gone = after-again-run },
+  (0, 1 ∷ [], again-ring, again-above, never-found again-placed 0 (1 ∷ []) again-ring again-above),
+)

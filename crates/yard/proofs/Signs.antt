@@ -2,11 +2,11 @@
 -- Assumes nothing.
 use mathlib.Core.Path.{_≡_, refl, sym, _∙_}
 use mathlib.Core.Logic.{_⊎_, inl, inr}
-use mathlib.Core.List.{List, [], _∷_, List·Memᴰ, List·Memᴰ·head, List·Memᴰ·tail}
+use mathlib.Core.List.{List·Memᴰ·head}
 use Prim.Native.Nat.{ℕ, suc, _%_, _<_, _≤_}
 use native.Mathlib.Nat.{mod-eq-of-lt}
 use native.Mathlib.Omega.{arith}
-use Rattle.yard.specs.Yard.{Mode, none, asking, waiting, freeing, leaving, Engine, Yard, start, mode, count, shown, own, HasBegun, Told, put, Act, begins, May, after}
+use Rattle.yard.specs.Yard.{none, waiting, Engine, Yard, start, mode, count, shown, own, HasBegun, Told, Act, begins, May, after}
 use Rattle.yard.proofs.Queues.{at-put}
 use Rattle.yard.proofs.Views.{Did, nothing, asked, freed, began, heard, found, did, begun-was, begun-stays, told-was}
 use Rattle.yard.proofs.Places.{Placed, waiting≢asking, waiting≢freeing, waiting≢leaving}
@@ -33,7 +33,8 @@ signed-start engines =
       begun-low = λ i c s m. elim m [ ];
       begun-one = λ i c s t m. elim m [ ];
       begun-now = λ i j s m e. absurd (none≢waiting e);
-      told-begun = λ x c j v m. elim m [ ] }
+      told-begun = λ x c j v m. elim m [ ];
+    }
   where
     none≢waiting : {j s m : ℕ} → none ≡ waiting j s m → ⊥
     none≢waiting p = let z : _≡_ {A = ℕ} 0 1 = cc in omega arith
@@ -93,24 +94,28 @@ module _ {engines : ℕ} {y : Yard} (p : Placed engines y) (q : Signed engines y
   module _ (a : Act) (g : May engines y a) where
     shown-low-after : (x k : ℕ) → x < engines → shown (after y a) x % engines ≡ k → shown (after y a) x ≤ own (after y a) k
     shown-low-after x k l r =
-        elim (shown-was (did engines y a g x))
-        [ inl e ↦ (let o = q .shown-low x k l (sym (rw e) ∙ r) in let up = own-rises (did engines y a g k) in omega arith)
-        | inr w ↦ elim w
-          [ inl n ↦ (let e : k ≡ x = sym r ∙ rw (← (n .0)) (n .1) in rw e (let h = n .0 in omega arith))
-          | inr t ↦ (let o = q .told-low x _ (t .0) _ k (t .1) r in let up = own-rises (did engines y a g k) in omega arith) ] ]
+        elim (shown-was (did engines y a g x)) [
+          | inl e ↦ (let o = q .shown-low x k l (sym (rw e) ∙ r) in let up = own-rises (did engines y a g k) in omega arith)
+          | inr w ↦ elim w [
+            | inl n ↦ (let e : k ≡ x = sym r ∙ rw (← (n .0)) (n .1) in rw e (let h = n .0 in omega arith))
+            | inr t ↦ (let o = q .told-low x _ (t .0) _ k (t .1) r in let up = own-rises (did engines y a g k) in omega arith)
+          ]
+        ]
 
     told-low-after : (x c j v k : ℕ) → Told (after y a) x c j v → v % engines ≡ k → v ≤ own (after y a) k
     told-low-after x c j v k t r =
         let up = own-rises (did engines y a g k) in
-        elim (told-was engines y a g x c j v t)
-        [ inl o ↦ (let h = q .told-low x c j v k o r in omega arith)
-        | inr n ↦ (let h = q .shown-low j k (p .holders j (n .1 .0) (n .1 .1 .1)) (rw (← (n .0)) r) in let e = n .0 in omega arith) ]
+        elim (told-was engines y a g x c j v t) [
+          | inl o ↦ (let h = q .told-low x c j v k o r in omega arith)
+          | inr n ↦ (let h = q .shown-low j k (p .holders j (n .1 .0) (n .1 .1 .1)) (rw (← (n .0)) r) in let e = n .0 in omega arith)
+        ]
 
     begun-one-after : (i c s t : ℕ) → HasBegun (after y a) i c s → HasBegun (after y a) i c t → s ≡ t
     begun-one-after i c s t h k = go (begun-was engines y a g i c s h) (begun-was engines y a g i c t k)
       where
         Was : ℕ → Type 0
         Was r = HasBegun y i c r ⊎ ((c ≡ suc (count y i)) × ((j m u : ℕ) × (a ≡ begins i r j m u)))
+
         go : Was s → Was t → s ≡ t
         go (inl o) (inl n) = q .begun-one i c s t o n
         go (inl o) (inr n) = absurd (let l = q .begun-low i c s o in let e = n .0 in omega arith)
@@ -128,11 +133,13 @@ module _ {engines : ℕ} {y : Yard} (p : Placed engines y) (q : Signed engines y
           shown-low = shown-low-after;
           told-low = told-low-after;
           begun-low =
-            λ i c s h. elim (begun-was engines y a g i c s h)
-            [ inl o ↦ (let l = q .begun-low i c s o in let up = count-rises (did engines y a g i) in omega arith)
-            | inr n ↦ (let e = n .0 in let f = begins-count a (n .1 .3) in omega arith) ];
+              λ i c s h. elim (begun-was engines y a g i c s h) [
+                | inl o ↦ (let l = q .begun-low i c s o in let up = count-rises (did engines y a g i) in omega arith)
+                | inr n ↦ (let e = n .0 in let f = begins-count a (n .1 .3) in omega arith)
+              ];
           begun-one = begun-one-after;
           begun-now = λ i j s m e. begun-did (λ c t. begun-stays engines y a g) (q .begun-now i j s m) (did engines y a g i) e;
           told-begun =
-            λ x c j v h. (let up = count-rises (did engines y a g x) in elim (told-was engines y a g x c j v h)
-            [ inl o ↦ (let l = q .told-begun x c j v o in omega arith) | inr n ↦ (let l = q .begun-low x c (n .1 .0) (n .1 .1 .0) in omega arith) ]) }
+              λ x c j v h. (let up = count-rises (did engines y a g x) in elim (told-was engines y a g x c j v h)
+              [ inl o ↦ (let l = q .told-begun x c j v o in omega arith) | inr n ↦ (let l = q .begun-low x c (n .1 .0) (n .1 .1 .0) in omega arith) ]);
+        }

@@ -1,17 +1,17 @@
 -- A ring all of whose homes have heard whom their engine waits for stands still: nobody shows a sign above the highest own one, and only hearings happen in it until that one finds.
 -- Assumes nothing.
-use mathlib.Core.Path.{_≡_, refl, sym, ap, subst, _∙_}
+use mathlib.Core.Path.{_≡_, refl, sym}
 use mathlib.Core.Logic.{_⊎_, inl, inr}
-use mathlib.Core.List.{List, [], _∷_, List·Memᴰ, List·Memᴰ·head, List·Memᴰ·tail}
-use Prim.Native.Nat.{ℕ, suc, _<_, _≤_}
+use mathlib.Core.List.{List, _∷_, List·Memᴰ, List·Memᴰ·head, List·Memᴰ·tail}
+use Prim.Native.Nat.{ℕ, _≤_}
 use native.Mathlib.Omega.{arith}
-use Rattle.yard.specs.Yard.{by, waiting, leaving, freeing, Engine, Yard, holder, mode, count, shown, own, Queued, HasBegun, WaitsOn, Finds, Act, finds, May, after, WaitsFor, Along, one, more}
+use Rattle.yard.specs.Yard.{by, waiting, freeing, Yard, holder, mode, count, shown, own, Queued, Finds, Act, finds, May, after, WaitsFor, Along, one, more}
 use Rattle.yard.proofs.Views.{did}
 use Rattle.yard.proofs.Places.{Placed, waiting≢freeing, waiting≢leaving}
 use Rattle.yard.proofs.Relays.{Relays, self, via, own-one, wait-after, waiter-did}
 use Rattle.yard.proofs.Covered.{Covered, own-above, idle-above, through}
 use Rattle.yard.proofs.Sound.{Sound, sound-after}
-use Rattle.yard.proofs.Rounds.{waits-one, along-all, chain-to}
+use Rattle.yard.proofs.Rounds.{waits-one, chain-to}
 
 -- the home of i has heard whom it waits for, the one that has the section
 pub record Hears (y : Yard) (i : ℕ) : Type 0 where
@@ -59,6 +59,7 @@ module _ {engines k : ℕ} {ks : List ℕ} {y : Yard} (w : Standing engines k ks
     where
       meet : {i t r : ℕ} → mode y x ≡ waiting i t r → j ≡ i
       meet f = cc
+
       same : j ≡ w .hears x m .for
       same = meet (w .hears x m .view)
 
@@ -103,4 +104,5 @@ module _ {engines k : ℕ} {ks : List ℕ} {y : Yard} (w : Standing engines k ks
           sound = sound-after (w .sound) a g;
           ring = along-map stays-put (w .ring);
           hears = hears-after;
-          high = λ x m. (let l = w .high x m in let e = ring-did x m .1 in let f = ring-did k (List·Memᴰ·head refl) .1 in omega arith) }
+          high = λ x m. (let l = w .high x m in let e = ring-did x m .1 in let f = ring-did k (List·Memᴰ·head refl) .1 in omega arith);
+        }

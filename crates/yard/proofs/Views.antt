@@ -1,11 +1,10 @@
 -- What one act does to one section, to one engine and to what was begun and told: all that the invariants look at.
 -- Assumes nothing.
-use mathlib.Core.Path.{_≡_, refl, sym, ap, _∙_}
+use mathlib.Core.Path.{_≡_, refl, ap}
 use mathlib.Core.Logic.{_⊎_, inl, inr}
-use mathlib.Core.List.{List, [], _∷_, List·Memᴰ, List·Memᴰ·head, List·Memᴰ·tail}
-use Prim.Native.Nat.{ℕ, suc, _≤_}
-use native.Mathlib.Omega.{arith}
-use Rattle.yard.specs.Yard.{Holder, Section, Mode, asking, waiting, freeing, leaving, Engine, Begun, Telling, Yard, holder, mode, count, shown, own, Queued, HasBegun, Told, by, free, first, rest, handed, joined, left, turned, beginning, showing, Act, asks, frees, takes, joins, passes, leaves, begins, tells, hears, finds, May, after}
+use mathlib.Core.List.{List·Memᴰ·head, List·Memᴰ·tail}
+use Prim.Native.Nat.{ℕ, suc}
+use Rattle.yard.specs.Yard.{Section, asking, waiting, freeing, leaving, Engine, Begun, Telling, Yard, count, shown, HasBegun, Told, by, first, rest, handed, joined, left, turned, beginning, showing, Act, asks, frees, takes, joins, passes, leaves, begins, tells, hears, finds, May, after}
 use Rattle.yard.proofs.Queues.{at-put}
 
 -- what became of a section

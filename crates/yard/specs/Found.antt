@@ -1,78 +1,39 @@
 -- That every ring is found, by the one whose own sign is the highest, through telling and hearing alone.
 -- Assumes nothing.
 use mathlib.Core.Path.{_≡_}
-use mathlib.Core.Logic.{_⊎_}
 use mathlib.Core.List.{List, [], _∷_, _++_, List·Memᴰ}
-use Prim.Native.Nat.{ℕ, _+_, _<_, _≤_}
+use Prim.Native.Nat.{ℕ, suc, _<_, _≤_}
 use lib.ListN.{length}
-use Rattle.yard.specs.Yard.{Yard, by, holder, own, count, shown, Queued, WaitsOn, Finds, Act, asks, frees, takes, joins, passes, leaves, begins, tells, hears, finds, May, after, Run, Reach, Ring}
+use Rattle.yard.specs.Yard.{Yard, by, holder, own, count, shown, Queued, WaitsOn, Finds, Act, begins, tells, hears, finds, May, after, Run, Reach, Ring}
 use Rattle.yard.specs.Rings.{OneLeaves}
 
 -- The home of i has heard whom it waits for: the one that has the section now.
 abbrev pub Heard : Yard → ℕ → Type 0
 Heard y i = (j s : ℕ) × WaitsOn y i j s × Queued y i s × (holder y s ≡ by j)
 
--- It holds of every act of the list.
-abbrev pub Every : (Act → Type 0) → List Act → Type 0
-Every P [] = Unit {0}
-Every P (a ∷ acts) = P a × Every P acts
+-- These acts are beginnings, of engines of the list that in y haven't heard yet whom they wait for.
+pub data BeginningsOf (y : Yard) (is : List ℕ) : List Act → Type 0 where
+  no-beginning : BeginningsOf y is []
+  a-beginning : {i s j m u : ℕ} {acts : List Act} → List·Memᴰ i is → (Heard y i → ⊥) → BeginningsOf y is acts → BeginningsOf y is (begins i s j m u ∷ acts)
 
--- One of the list that hasn't heard yet whom it waits for begins to wait.
-abbrev pub BeginsOf : Yard → List ℕ → Act → Type 0
-BeginsOf y is (asks i s) = ⊥
-BeginsOf y is (frees i s) = ⊥
-BeginsOf y is (takes i s) = ⊥
-BeginsOf y is (joins i s) = ⊥
-BeginsOf y is (passes i s) = ⊥
-BeginsOf y is (leaves i s) = ⊥
-BeginsOf y is (begins i s j m u) = List·Memᴰ i is × (Heard y i → ⊥)
-BeginsOf y is (tells x c s j) = ⊥
-BeginsOf y is (hears x j v) = ⊥
-BeginsOf y is (finds i j s) = ⊥
+-- These acts are tellings and hearings, so many of them tellings.
+pub data Round : ℕ → List Act → Type 0 where
+  no-telling : Round 0 []
+  a-telling : {n x c s j : ℕ} {acts : List Act} → Round n acts → Round (suc n) (tells x c s j ∷ acts)
+  a-hearing : {n x j v : ℕ} {acts : List Act} → Round n acts → Round n (hears x j v ∷ acts)
 
--- One of a telling and a hearing.
-abbrev pub TellsOrHears : Act → Type 0
-TellsOrHears (asks i s) = ⊥
-TellsOrHears (frees i s) = ⊥
-TellsOrHears (takes i s) = ⊥
-TellsOrHears (joins i s) = ⊥
-TellsOrHears (passes i s) = ⊥
-TellsOrHears (leaves i s) = ⊥
-TellsOrHears (begins i s j m u) = ⊥
-TellsOrHears (tells x c s j) = Unit {0}
-TellsOrHears (hears x j v) = Unit {0}
-TellsOrHears (finds i j s) = ⊥
-
--- How many of the acts are tellings.
-abbrev pub telling : Act → ℕ
-telling (asks i s) = 0
-telling (frees i s) = 0
-telling (takes i s) = 0
-telling (joins i s) = 0
-telling (passes i s) = 0
-telling (leaves i s) = 0
-telling (begins i s j m u) = 0
-telling (tells x c s j) = 1
-telling (hears x j v) = 0
-telling (finds i j s) = 0
-
-abbrev pub tellings : List Act → ℕ
-tellings [] = 0
-tellings (a ∷ acts) = telling a + tellings acts
-
--- A way from a ring to its finding: those that haven't heard whom they wait for begin, each once at most; then there are only tellings and
--- hearings, as many tellings as engines; then the one finds whose own sign is the highest.
+-- A way from a ring to its finding: those that haven't heard whom they wait for begin, at most as many beginnings as engines; then there are only
+-- tellings and hearings, as many tellings as engines; then the one finds whose own sign is the highest.
 pub record WayToFinding (engines : ℕ) (y : Yard) (ring : List ℕ) : Type 0 where
   pub beginnings : List Act
   pub all-heard : Yard
   pub begun : Run engines y beginnings all-heard
-  pub only-beginnings : Every (BeginsOf y ring) beginnings
+  pub only-beginnings : BeginningsOf y ring beginnings
   pub few-beginnings : length beginnings ≤ length ring
   pub round : List Act
   pub end : Yard
   pub told-round : Run engines all-heard round end
-  pub only-tellings : Every TellsOrHears round
-  pub as-many : tellings round ≡ length ring
+  pub as-many-tellings : Round (length ring) round
   pub finder : ℕ
   pub in-ring : List·Memᴰ finder ring
   pub highest : (l : ℕ) → List·Memᴰ l ring → own all-heard l ≤ own all-heard finder
@@ -94,8 +55,8 @@ pub data Delivered (engines : ℕ) (y : Yard) (x c j v : ℕ) : List Act → Yar
 -- j tells x the sign that it shows, for the wait that x is in, and that comes to x; whatever else happens before the telling and before it comes.
 pub data Passed (engines : ℕ) (y : Yard) (j x : ℕ) : List Act → Yard → Type 0 where
   passed : {before between come : List Act} {y1 y2 y3 : Yard} → Run engines y before y1 → (s : ℕ) (g : May engines y1 (tells x (count y1 x) s j)) →
-    Run engines (after y1 (tells x (count y1 x) s j)) between y2 → Delivered engines y2 x (count y1 x) j (shown y1 j) come y3 →
-    Passed engines y j x (come ++ (between ++ (tells x (count y1 x) s j ∷ before))) y3
+      Run engines (after y1 (tells x (count y1 x) s j)) between y2 → Delivered engines y2 x (count y1 x) j (shown y1 j) come y3 →
+      Passed engines y j x (come ++ (between ++ (tells x (count y1 x) s j ∷ before))) y3
 
 -- What k shows is told on from one to the next, in order, until it comes to x.
 pub data ToldOn (engines : ℕ) (y : Yard) (k : ℕ) : ℕ → List Act → Yard → Type 0 where

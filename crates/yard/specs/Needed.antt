@@ -3,8 +3,8 @@
 use mathlib.Core.Path.{_≡_}
 use mathlib.Core.List.{List, [], _∷_, List·Memᴰ}
 use Prim.Native.Nat.{ℕ, suc, _%_, _<_, _≤_}
-use Rattle.yard.specs.Yard.{by, asking, waiting, Yard, start, mode, count, shown, own, Queued, HasBegun, Told, put, showing, atEngine, Unheard, WaitsOn, Finds, Act, begins, tells, after, Run, Ring}
-use Rattle.yard.specs.Found.{Heard}
+use Rattle.yard.specs.Yard.{by, asking, waiting, Yard, start, mode, count, shown, own, Queued, HasBegun, Told, put, showing, atEngine, Unheard, Finds, Act, begins, tells, after, Run, Reach, Ring}
+use Rattle.yard.specs.Found.{Heard, ToldOn}
 
 -- The rules that are dropped, one at a time.
 pub data Rule : Type 0 where
@@ -25,19 +25,20 @@ pub data Slip (engines : ℕ) (y : Yard) : Rule → Yard → Type 0 where
   tells-late : (x c s j m : ℕ) → HasBegun y x c s → m ≤ y .section s .change → y .section s .past m ≡ by j → Slip engines y silent-once-freed (after y (tells x c s j))
   -- i begins though it has only asked
   signs-early : (i s j m u : ℕ) → mode y i ≡ asking s → m ≤ y .section s .change → y .section s .past m ≡ by j → (i ≡ j → ⊥) → shown y i < u → u % engines ≡ i →
-    Slip engines y sign-once-queued (after y (begins i s j m u))
+      Slip engines y sign-once-queued (after y (begins i s j m u))
   -- i takes what was told for an earlier wait for something told for the present one
-  takes-old-for-new : (i c j v : ℕ) → Told y i c j v →
-    Slip engines y by-this-count
+  takes-old-for-new : (i c j v : ℕ) → c < count y i → Told y i c j v →
+      Slip engines y by-this-count
       (record { section = y .section; engine = y .engine; begun = y .begun; told = record { to = i; count = count y i; teller = j; sign = v } ∷ y .told })
   -- i begins to wait for the next holder and keeps its signs
-  keeps-sign : (i s j m : ℕ) → Unheard s m (mode y i) → Queued y i s → m ≤ y .section s .change → y .section s .past m ≡ by j → (i ≡ j → ⊥) →
-    Slip engines y new-sign-each-time
+  keeps-sign : (i s j m : ℕ) → Unheard s m (mode y i) → Queued y i s → y .section s .came i ≤ m → m ≤ y .section s .change → y .section s .past m ≡ by j → (i ≡ j → ⊥) →
+      Slip engines y new-sign-each-time
       (record {
         section = y .section;
         engine = put i (record { mode = waiting j s m; count = suc (count y i); shown = shown y i; own = own y i }) (y .engine);
         begun = record { engine = i; count = suc (count y i); section = s } ∷ y .begun;
-        told = y .told })
+        told = y .told;
+      })
   -- i shows its own sign again
   shows-own-again : (i : ℕ) → Slip engines y shown-after-stop (atEngine i (showing (own y i) (y .engine i)) y)
 
@@ -61,7 +62,7 @@ abbrev pub LostRing : ℕ → Rule → Type 0
 LostRing engines rule =
     (y : Yard) × WithOneSlip engines rule y ×
     ((i : ℕ) × (is : List ℕ) × Ring y i is × ((l : ℕ) → List·Memᴰ l (i ∷ is) → Heard y l × (own y l < shown y l)) ×
-      ((acts : List Act) (z : Yard) → Run engines y acts z → Ring z i is × ((l j s : ℕ) → List·Memᴰ l (i ∷ is) → Finds z l j s → ⊥)))
+    ((acts : List Act) (z : Yard) → Run engines y acts z → Ring z i is × ((l j s : ℕ) → List·Memᴰ l (i ∷ is) → Finds z l j s → ⊥)))
 
 -- Each of the five rules is needed.
 abbrev pub TellingAfterFreeing : Type 0
@@ -84,3 +85,9 @@ OwnSignAgain = LostRing 3 shown-after-stop
 abbrev pub RingOfThree : Type 0
 RingOfThree =
     (acts : List Act) × (y : Yard) × Run 4 start acts y × Ring y 2 (0 ∷ 1 ∷ []) × (own y 2 ≡ 6) × (own y 0 ≡ 4) × (own y 1 ≡ 5) × Finds y 2 0 0
+
+-- Nor is the promise about every run: before the tellings all three have heard whom they wait for, 2 has the highest own sign, and it is told round.
+abbrev pub RoundCanBeTold : Type 0
+RoundCanBeTold =
+    (y : Yard) × Reach 4 y × Ring y 2 (0 ∷ 1 ∷ []) × ((l : ℕ) → List·Memᴰ l (2 ∷ 0 ∷ 1 ∷ []) → Heard y l) × ((l : ℕ) → List·Memᴰ l (0 ∷ 1 ∷ []) → own y l ≤ own y 2) ×
+    ((acts : List Act) × (z : Yard) × ToldOn 4 y 2 2 acts z)

@@ -4,7 +4,7 @@ use mathlib.Core.Path.{_≡_}
 use mathlib.Core.Logic.{_⊎_}
 use mathlib.Core.List.{List, [], _∷_, List·Memᴰ}
 use Prim.Native.Nat.{ℕ, _%_, _<_, _≤_}
-use Rattle.yard.specs.Yard.{free, by, asking, freeing, Yard, start, holder, mode, shown, own, Queued, Told, Act, begins, May, after, Run, Reach, Distinct}
+use Rattle.yard.specs.Yard.{free, by, asking, waiting, freeing, Yard, start, holder, mode, shown, own, Queued, Told, Act, begins, May, after, Run, Reach, Distinct}
 
 -- One at a time: who has a section has it until it has sent that it frees it.
 abbrev pub OneAtATime : Type 0
@@ -39,6 +39,11 @@ abbrev pub Behind : Type 0
 Behind =
     (engines : ℕ) (y : Yard) → Reach engines y → (i s n h : ℕ) → Queued y i s → y .section s .came i ≤ n → n < y .section s .change → y .section s .past n ≡ by h →
     (holder y s ≡ by h → ⊥) × (Upto h i (y .section s .queue) → ⊥)
+
+-- Whose home counts it as waiting as of a change, and who had the section at a later one, has it now.
+abbrev pub TurnHasCome : Type 0
+TurnHasCome =
+    (engines : ℕ) (y : Yard) → Reach engines y → (i j s m n : ℕ) → mode y i ≡ waiting j s m → m ≤ n → n ≤ y .section s .change → y .section s .past n ≡ by i → holder y s ≡ by i
 
 -- Own signs differ: each leaves its engine's number when divided by the number of engines.
 abbrev pub OwnDiffer : Type 0

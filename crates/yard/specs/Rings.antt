@@ -6,9 +6,10 @@ use mathlib.Core.List.{List, _∷_, List·Memᴰ}
 use Prim.Native.Nat.{ℕ, _<_}
 use Rattle.yard.specs.Yard.{Yard, leaving, mode, own, Queued, Told, WaitsOn, Finds, Act, finds, May, after, Run, Reach, Ring}
 
--- Whoever finds is at that moment in the queue of a section that the next one has, and so on round to itself, however late what it heard was told.
+-- Whoever finds is at that moment in the queue of a section that the one has from which it heard, and so on round to itself, however late what it
+-- heard was told.
 abbrev pub Real : Type 0
-Real = (engines : ℕ) (y : Yard) → Reach engines y → (i j s : ℕ) → Finds y i j s → (is : List ℕ) × Ring y i is
+Real = (engines : ℕ) (y : Yard) → Reach engines y → (i j s : ℕ) → Finds y i j s → (is : List ℕ) × Ring y i (j ∷ is)
 
 -- Every other of that ring has a lower own sign.
 abbrev pub Highest : Type 0

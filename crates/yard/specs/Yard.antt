@@ -63,7 +63,8 @@ start =
       section = λ s. record { holder = free; queue = []; change = 0; past = λ n. free; came = λ i. 0 };
       engine = λ i. record { mode = none; count = 0; shown = i; own = i };
       begun = [];
-      told = [] }
+      told = [];
+    }
 
 -- Reading a yard.
 abbrev pub holder : Yard → ℕ → Holder
@@ -202,13 +203,15 @@ after y (begins i s j m u) =
       section = y .section;
       engine = put i (beginning (waiting j s m) u (y .engine i)) (y .engine);
       begun = record { engine = i; count = suc (count y i); section = s } ∷ y .begun;
-      told = y .told }
+      told = y .told;
+    }
 after y (tells x c s j) =
     record {
       section = y .section;
       engine = y .engine;
       begun = y .begun;
-      told = record { to = x; count = c; teller = j; sign = shown y j } ∷ y .told }
+      told = record { to = x; count = c; teller = j; sign = shown y j } ∷ y .told;
+    }
 after y (hears x j v) = atEngine x (showing v (y .engine x)) y
 after y (finds i j s) = atEngine i (turned (leaving s) (y .engine i)) y
 
