@@ -21,7 +21,7 @@ use messages::Yard;
 pub fn home_of(yard: Yard, engine: Engine) -> BoxNumber
     ensures { λ r. ⌜ r ≡ homeOf yard engine ⌝ }
 {
-    BoxNumber(engine.0 % yard.boxes())
+    BoxNumber(engine.0 % yard.boxes)
 }
 
 // The sign that `by` shows, to `to` if it is noted as waiting for what `by` holds.
@@ -53,7 +53,7 @@ pub(crate) fn tell_waiters(
 ) -> Result<(), Fault>
     ensures { λ r. ⌜ made r (λ _. logOf (now (effects .exit)) ≡ tellsOf (now (home .entry)) by sign (logOf (now (effects .entry)))) ⌝ }
 {
-    let engines = home.yard().engines();
+    let engines = home.yard().engines;
     for x in 0u8..engines {
         tell(home, by, sign, Engine(x), effects)?;
     }

@@ -66,7 +66,7 @@ impl SignalBox {
         if from.0 != section.keeper.0 {
             return effects.say(Output::Refused(Refusal::Malformed));
         }
-        let engines = self.home.yard().engines();
+        let engines = self.home.yard().engines;
         for e in 0u8..engines {
             self.change_for(section, holder, change, Engine(e), effects)?;
         }

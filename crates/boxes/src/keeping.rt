@@ -65,7 +65,7 @@ impl SignalBox {
     ) -> Result<(), Fault>
         ensures { λ r. ⌜ made r (λ _. logOf (now (effects .exit)) ≡ changesOf (stateOf (now (self .entry))) section holder change (logOf (now (effects .entry)))) ⌝ }
     {
-        let boxes = self.home.yard().boxes();
+        let boxes = self.home.yard().boxes;
         for b in 0u8..boxes {
             self.send_change(section, holder, change, b, effects)?;
         }

@@ -3,6 +3,7 @@ mod emit;
 mod handle;
 mod keeping;
 mod opening;
+mod parts;
 mod second;
 mod signal_box;
 

@@ -27,7 +27,7 @@ fn is_sound(home: &Home, record: Record) -> bool
         Record::Kept(_) => false,
         Record::Made(call) => home.is_next(call),
         Record::Beginning { engine, section: _, change: _, holder: _, count: _, own } => {
-            home.is_ours(engine) && own % home.yard().engines() as u64 == engine.0 as u64
+            home.is_ours(engine) && own % home.yard().engines as u64 == engine.0 as u64
         }
         Record::Heard { engine, sign: _ } => home.is_ours(engine),
     }

@@ -82,7 +82,7 @@ impl SignalBox {
     pub(crate) fn second(&self, effects: &mut Effects) -> Result<(), Fault>
         ensures { λ r. ⌜ made r (λ _. logOf (now (effects .exit)) ≡ secondOf (now (self .entry) .home) (logOf (now (effects .entry)))) ⌝ }
     {
-        let engines = self.home.yard().engines();
+        let engines = self.home.yard().engines;
         for e in 0u8..engines {
             second_for(&self.home, Engine(e), effects)?;
         }
@@ -93,7 +93,7 @@ impl SignalBox {
     pub fn remind(&self, effects: &mut Effects) -> Result<(), Fault>
         ensures { λ r. ⌜ made r (λ _. logOf (now (effects .exit)) ≡ remindersOf (now (self .entry) .home) (logOf (now (effects .entry)))) ⌝ }
     {
-        let engines = self.home.yard().engines();
+        let engines = self.home.yard().engines;
         for e in 0u8..engines {
             remind(&self.home, Engine(e), effects)?;
         }

@@ -39,7 +39,7 @@ pub struct Home {
 pub fn is_home(yard: Yard, number: BoxNumber, engine: Engine) -> bool
     ensures { λ r. ⌜ r ≡ isHome yard number engine ⌝ }
 {
-    engine.0 < yard.engines() && engine.0 % yard.boxes() == number.0
+    engine.0 < yard.engines && engine.0 % yard.boxes == number.0
 }
 
 impl Home {

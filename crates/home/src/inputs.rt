@@ -53,7 +53,7 @@ impl Home {
     fn has_section(&self, section: Section) -> bool
         ensures { λ r. ⌜ r ≡ hasSection (now (self .entry)) section ⌝ }
     {
-        section.keeper.0 < self.yard.boxes() && section.place < 64
+        section.keeper.0 < self.yard.boxes && section.place < 64
     }
 
     // The call that the driver's `take` makes.
@@ -121,7 +121,7 @@ impl Home {
                 let (after, event) = state.answer(
                     from,
                     engine,
-                    self.yard.engines(),
+                    self.yard.engines,
                     number,
                     reply,
                     holder,
@@ -148,7 +148,7 @@ impl Home {
             Ok(state) => {
                 let (after, event) = state.change_at(
                     engine,
-                    self.yard.engines(),
+                    self.yard.engines,
                     section,
                     holder,
                     change,
@@ -200,7 +200,7 @@ impl Home {
     pub fn waits(&mut self, engine: Engine, section: Section, count: u32) -> Event
         ensures { λ r. ⌜ (now (self .exit), r) ≡ waitsOf (now (self .entry)) engine section count ⌝ }
     {
-        if engine.0 >= self.yard.engines() || !self.has_section(section) {
+        if engine.0 >= self.yard.engines || !self.has_section(section) {
             return Event::Refused(Refusal::Malformed);
         }
         match self.holder_of(section) {

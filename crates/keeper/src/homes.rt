@@ -13,7 +13,7 @@ use sections::Sections;
 fn is_home(yard: Yard, number: BoxNumber, engine: u8) -> bool
     ensures { λ r. ⌜ r ≡ eqb (homeOf yard engine) (number .0) ⌝ }
 {
-    engine % yard.boxes() == number.0
+    engine % yard.boxes == number.0
 }
 
 fn is_home_of_holder(yard: Yard, number: BoxNumber, holder: Holder) -> bool
