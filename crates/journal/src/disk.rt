@@ -1,4 +1,4 @@
-// A file of the system. No proof can say what it holds; only which calls were made of it, and in which order.
+// A file of the system. No proof can say what it holds: that it keeps the promises of a file is assumed.
 ghost use mathlib.Core.List.{List};
 ghost use mathlib.Core.Path.{_≡_};
 ghost use Prim.Native.Nat.{ℕ};
@@ -54,6 +54,7 @@ impl DiskFile {
 }
 
 pub impl File for DiskFile as DiskFileFile {
+    // Never known here, so nothing is promised of its bytes.
     ghost holds = { λ _ _ _. ⊥ };
 
     ghost settled = { λ f. f .state ≡ State.Synced };

@@ -64,10 +64,10 @@ impl Effects {
             records,
             outputs,
         } = self;
-        if !records.is_empty() {
-            store(file, records.as_slice(), heap)?;
+        match store(file, records.as_slice(), heap) {
+            Ok(()) => Ok(Said { outputs }),
+            Err(fault) => Err(fault),
         }
-        Ok(Said { outputs })
     }
 
     // For a program that ends on a fault: nothing is said.

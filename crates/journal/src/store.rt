@@ -15,7 +15,18 @@ use messages::Record;
 use messages::encode_record;
 use std::alloc::Global;
 
+// Nothing is written where there are no records, and then there is nothing to sync.
 pub(crate) fn store<F: File>(file: &mut F, records: &[Record], heap: Global) -> Result<(), Fault>
+    ensures stored { λ r. ⌜ ((xs : List ℕ) → F·File .holds (now (file .entry)) xs (length xs) → Cases r (λ _. F·File .holds (now (file .exit)) (xs ++ written (now (records .entry))) (length (xs ++ written (now (records .entry))))) (λ _. Remains (F·File .holds (now (file .exit))) (xs ++ written (now (records .entry))) (length xs))) ⌝ }
+    ensures settled { λ r. ⌜ (F·File .settled (now (file .entry)) → made r (λ _. F·File .settled (now (file .exit)))) ⌝ }
+{
+    if !records.is_empty() {
+        append_and_sync(file, records, heap)?;
+    }
+    Ok(())
+}
+
+fn append_and_sync<F: File>(file: &mut F, records: &[Record], heap: Global) -> Result<(), Fault>
     ensures stored { λ r. ⌜ ((xs : List ℕ) (n : ℕ) → F·File .holds (now (file .entry)) xs n → Cases r (λ _. F·File .holds (now (file .exit)) (xs ++ written (now (records .entry))) (length (xs ++ written (now (records .entry))))) (λ _. Remains (F·File .holds (now (file .exit))) (xs ++ written (now (records .entry))) n)) ⌝ }
     ensures settled { λ r. ⌜ made r (λ _. F·File .settled (now (file .exit))) ⌝ }
 {
