@@ -9,7 +9,7 @@ N ?= 2000
 
 run:
 	@rt check rehearse > /dev/null || { rt check rehearse; exit 1; }
-	@scripts/play target/bin/rehearse rehearsals/first.txt
+	@scripts/play target/bin/rehearse rehearsals/ring.txt
 
 test:
 	@scripts/test
