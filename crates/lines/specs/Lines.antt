@@ -11,6 +11,7 @@ use Rattle.std.specs.declared.result.Result.{Result}
 use Rattle.std.specs.declared.result.Result.the-variants.{Ok, Err}
 use Rattle.messages.specs.declared.message.Refusal.{Refusal}
 use Rattle.messages.specs.Promises.{Bytes}
+use Rattle.messages.specs.Range.{EngineIn, SectionIn}
 use Rattle.messages.specs.declared.yard.BoxNumber.{BoxNumber}
 use Rattle.messages.specs.Reading.{andThen, boxOf, engineOf, sectionOf, unless}
 use Rattle.messages.specs.declared.yard.Engine.{Engine}
@@ -87,6 +88,17 @@ isFree xs = leb 5 (length xs) && (eqb (getD xs 0 0) 102 && (eqb (getD xs 1 0) 11
 abbrev pub isSecond : List ℕ → Bool
 isSecond xs = eqb (length xs) 6 && (eqb (getD xs 0 0) 115 && (eqb (getD xs 1 0) 101 && (eqb (getD xs 2 0) 99 && (eqb (getD xs 3 0) 111 && (eqb (getD xs 4 0) 110 && eqb (getD xs 5 0) 100)))))
 
+-- what a driver writes behind the word: an engine, a blank, a box, a colon and a place
+abbrev pub wishText : Engine → Section → List ℕ
+wishText e s = decimal (e .0) ++ (32 ∷ (decimal (s .keeper .0) ++ (58 ∷ decimal (s .place))))
+
+-- a driver's lines
+abbrev pub takeLine : Engine → Section → List ℕ
+takeLine e s = 116 ∷ 97 ∷ 107 ∷ 101 ∷ 32 ∷ wishText e s
+
+abbrev pub freeLine : Engine → Section → List ℕ
+freeLine e s = 102 ∷ 114 ∷ 101 ∷ 101 ∷ 32 ∷ wishText e s
+
 -- what a line is read as: the whole of it
 abbrev pub lineOf : Yard → List ℕ → Option Said
 lineOf y xs = cond (isTake xs) (andThen (wishOf y (drop 5 xs)) (λ w. Some (take (w .engine) (w .section))))
@@ -101,3 +113,8 @@ answered (Err e) = Err e
 -- a message's line is read back as that message, from that box
 abbrev pub READS-BACK : Type 0
 READS-BACK = (y : Yard) (b : BoxNumber) (bs : List ℕ) → b .0 < y .boxes → Bytes bs → length bs ≤ 21 → lineOf y (messageLine b bs) ≡ Some (message b bs)
+
+-- a driver's line for an engine and a section of the yard is read as what it asks for
+abbrev pub DRIVER-READ : Type 0
+DRIVER-READ = (y : Yard) (e : Engine) (s : Section) → EngineIn y e → SectionIn y s
+    → (lineOf y (takeLine e s) ≡ Some (take e s)) × (lineOf y (freeLine e s) ≡ Some (free e s))

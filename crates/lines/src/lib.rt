@@ -6,4 +6,5 @@ pub use line::Buffer;
 pub use line::Line;
 pub use line::reading::read;
 pub use line::writing::write;
+pub use promises::driver_read;
 pub use promises::reads_back;

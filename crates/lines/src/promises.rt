@@ -1,9 +1,16 @@
 // What holds of every line, whoever calls.
-ghost use Rattle.lines.specs.Lines.{READS-BACK};
+ghost use Rattle.lines.specs.Lines.{DRIVER-READ, READS-BACK};
 
 // A message's line is read back as that message.
 pub fn reads_back() -> u8
     ensures { λ _. ⌜ READS-BACK ⌝ }
+{
+    0
+}
+
+// A driver's line for what the yard has is read as what it asks for.
+pub fn driver_read() -> u8
+    ensures { λ _. ⌜ DRIVER-READ ⌝ }
 {
     0
 }
