@@ -23,7 +23,7 @@ use Rattle.messages.specs.declared.yard.Engine.{Engine}
 use Rattle.messages.specs.declared.yard.Section.{Section}
 use Rattle.lines.specs.declared.line.Number.{Number}
 use Rattle.lines.specs.Digits.{bytesIn, decimal, digitOf, hexDigit, hexOf, hexValue, nextOf, numberOf, withNext}
-use Rattle.lines.specs.Lines.{DRIVER-READ, READS-BACK, Said, freeLine, isAt, isFree, isSecond, isTake, lineOf, message, messageIn, messageLine, placeOf, sentOf, takeLine, wishOf, wishText}
+use Rattle.lines.specs.Lines.{DRIVER-READ, READS-BACK, freeLine, isAt, isFree, isSecond, isTake, lineOf, message, messageIn, messageLine, placeOf, sentOf, takeLine, wishOf, wishText}
 
 pub digit-back : (n : ℕ) → n < 16 → hexValue (hexDigit n) ≡ Some n
 digit-back n h = grind (arith, tells)

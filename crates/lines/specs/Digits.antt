@@ -28,6 +28,14 @@ bytesIn [] = Some []
 bytesIn (a ∷ []) = None
 bytesIn (a ∷ b ∷ cs) = andThen (hexValue a) (λ h. andThen (hexValue b) (λ l. andThen (bytesIn cs) (λ bs. Some ((h * 16 + l) ∷ bs))))
 
+-- the same digits in capital letters
+abbrev pub capital : ℕ → ℕ
+capital c = cond (leb 97 c && leb c 102) (c - 32) c
+
+abbrev pub capitals : List ℕ → List ℕ
+capitals [] = []
+capitals (c ∷ cs) = capital c ∷ capitals cs
+
 -- a number below a hundred
 abbrev pub decimal : ℕ → List ℕ
 decimal n = cond (ltb n 10) ((48 + n) ∷ []) ((48 + n / 10) ∷ (48 + n % 10) ∷ [])

@@ -20,7 +20,7 @@ use Rattle.messages.specs.declared.yard.Yard.{Yard}
 use Rattle.lines.specs.declared.line.Line.{Line}
 use Rattle.lines.specs.declared.line.Line.the-variants as line
 use Rattle.lines.specs.declared.line.Wish.{Wish}
-use Rattle.lines.specs.Digits.{bytesIn, decimal, hexOf, numberOf}
+use Rattle.lines.specs.Digits.{bytesIn, capitals, decimal, hexOf, numberOf}
 use Rattle.lines.specs.Written.{bytesOf}
 
 -- the line of a message to or from a box
@@ -118,3 +118,7 @@ READS-BACK = (y : Yard) (b : BoxNumber) (bs : List ℕ) → b .0 < y .boxes → 
 abbrev pub DRIVER-READ : Type 0
 DRIVER-READ = (y : Yard) (e : Engine) (s : Section) → EngineIn y e → SectionIn y s
     → (lineOf y (takeLine e s) ≡ Some (take e s)) × (lineOf y (freeLine e s) ≡ Some (free e s))
+
+-- a message's digits are read alike in small and in capital letters
+abbrev pub EITHER-CASE : Type 0
+EITHER-CASE = (xs : List ℕ) → messageIn (capitals xs) ≡ messageIn xs

@@ -1,5 +1,5 @@
 // What holds of every line, whoever calls.
-ghost use Rattle.lines.specs.Lines.{DRIVER-READ, READS-BACK};
+ghost use Rattle.lines.specs.Lines.{DRIVER-READ, EITHER-CASE, READS-BACK};
 
 // A message's line is read back as that message.
 pub fn reads_back() -> u8
@@ -11,6 +11,13 @@ pub fn reads_back() -> u8
 // A driver's line for what the yard has is read as what it asks for.
 pub fn driver_read() -> u8
     ensures { λ _. ⌜ DRIVER-READ ⌝ }
+{
+    0
+}
+
+// A message's digits may be small or capital letters.
+pub fn either_case() -> u8
+    ensures { λ _. ⌜ EITHER-CASE ⌝ }
 {
     0
 }

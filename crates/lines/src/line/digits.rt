@@ -2,7 +2,6 @@
 ghost use mathlib.Core.Path.{_≡_};
 ghost use Prim.Native.Nat.{_<_};
 ghost use Rattle.lines.specs.Digits.{Below, Inside, Next, digitOf, hexDigit, hexValue, nextOf, numberOf};
-
 use crate::line::Number;
 
 // The number that `text` begins with: one digit, or two.

@@ -16,7 +16,8 @@ loop-rest-holds c = (bytes-start _ _ (c .empty-out .ensures .bytes), omega arith
 pub loop-rest-again : need.loop-rest-again
 loop-rest-again c =
     let xs = c .loop-rest .rest .now in
-    let two : 2 ≤ length (c .loop-rest .rest .now) = search needs in
-    (bytes-step (bytesOf (c .loop-rest .out)) xs _ (c .in-Continue-h .h) (c .in-Continue-l .l) two (c .loop-rest .inv .0)
-    (c .in-Continue-h .ensures tt .value) (c .in-Continue-l .ensures tt .value) (c .byte-out .ensures .bytes),
-    rest-room xs _ _ two (c .byte-out .ensures .used) (c .loop-rest .inv .1))
+    let two : 2 ≤ length (c .loop-rest .rest .now) = search needs in (
+      bytes-step (bytesOf (c .loop-rest .out)) xs _ (c .in-Continue-h .h) (c .in-Continue-l .l) two (c .loop-rest .inv .0)
+          (c .in-Continue-h .ensures tt .value) (c .in-Continue-l .ensures tt .value) (c .byte-out .ensures .bytes),
+      rest-room xs _ _ two (c .byte-out .ensures .used) (c .loop-rest .inv .1),
+    )
