@@ -10,6 +10,8 @@ use Rattle.std.specs.declared.option.Option.the-variants.{Some, None}
 use Rattle.std.specs.declared.result.Result.{Result}
 use Rattle.std.specs.declared.result.Result.the-variants.{Ok, Err}
 use Rattle.messages.specs.declared.message.Refusal.{Refusal}
+use Rattle.messages.specs.declared.message.Message.{Message}
+use Rattle.messages.specs.Table as wire
 use Rattle.messages.specs.Promises.{Bytes}
 use Rattle.messages.specs.Range.{EngineIn, SectionIn}
 use Rattle.messages.specs.declared.yard.BoxNumber.{BoxNumber}
@@ -122,3 +124,7 @@ DRIVER-READ = (y : Yard) (e : Engine) (s : Section) → EngineIn y e → Section
 -- a message's digits are read alike in small and in capital letters
 abbrev pub EITHER-CASE : Type 0
 EITHER-CASE = (xs : List ℕ) → messageIn (capitals xs) ≡ messageIn xs
+
+-- every message has a line, to any box that has one
+abbrev pub EVERY-MESSAGE : Type 0
+EVERY-MESSAGE = (b : BoxNumber) (m : Message) → b .0 ≤ 99 → written b (wire.bytesOf m) ≡ Some (messageLine b (wire.bytesOf m))

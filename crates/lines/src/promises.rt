@@ -1,5 +1,5 @@
 // What holds of every line, whoever calls.
-ghost use Rattle.lines.specs.Lines.{DRIVER-READ, EITHER-CASE, READS-BACK};
+ghost use Rattle.lines.specs.Lines.{DRIVER-READ, EITHER-CASE, EVERY-MESSAGE, READS-BACK};
 
 // A message's line is read back as that message.
 pub fn reads_back() -> u8
@@ -18,6 +18,13 @@ pub fn driver_read() -> u8
 // A message's digits may be small or capital letters.
 pub fn either_case() -> u8
     ensures { λ _. ⌜ EITHER-CASE ⌝ }
+{
+    0
+}
+
+// No message is too long for a line.
+pub fn every_message() -> u8
+    ensures { λ _. ⌜ EVERY-MESSAGE ⌝ }
 {
     0
 }
