@@ -1,0 +1,4 @@
+pub mod Steps
+pub mod Back
+pub mod Capitals
+pub mod Fits
