@@ -1,4 +1,12 @@
 // A script's lines, read from their bytes.
+ghost use mathlib.Core.Path.{_≡_};
+ghost use Prim.Native.Nat.{_≤_};
+ghost use denote.Ref.{now as at};
+ghost use lib.Chars.{codes};
+ghost use lib.ListN.{length};
+ghost use Rattle.std.specs.shelf.Text.{sameBytes};
+ghost use Rattle.std.specs.Options.{mapped};
+ghost use Rattle.rehearse.specs.Script.{afterOf, cutOf, deliverOf, freeOf, isBlank, isPassed, isSpace, lineOf, longerOf, numberOf, pairOf, placeOf, secondOf, sectionOf, sizes, smallOf, stepOf, stopOf, takeOf, wishOf, yardOf};
 use messages::BoxNumber;
 use messages::Engine;
 use messages::Section;
@@ -31,12 +39,17 @@ pub struct Wish {
 }
 
 // What stands behind a word that a text begins with.
-fn after<'a>(text: &'a [u8], word: &[u8]) -> Option<&'a [u8]> {
+fn after<'a>(text: &'a [u8], word: &[u8]) -> Option<&'a [u8]>
+    ensures { λ r. ⌜ mapped at r ≡ afterOf (now (word .entry)) (now (text .entry)) ⌝ }
+{
     text.strip_prefix(word)
 }
 
 // Where a byte first stands in a text; its length, if nowhere.
-fn place_of(text: &[u8], byte: u8) -> usize {
+fn place_of(text: &[u8], byte: u8) -> usize
+    ensures value { λ r. ⌜ r ≡ placeOf byte (now (text .entry)) ⌝ }
+    ensures bound { λ r. ⌜ r ≤ length (now (text .entry)) ⌝ }
+{
     for i in 0..text.len() {
         if text[i] == byte {
             return i;
@@ -46,7 +59,9 @@ fn place_of(text: &[u8], byte: u8) -> usize {
 }
 
 // A number with one more digit, if it is one and the number isn't too large.
-fn longer(value: u32, byte: u8) -> Option<u32> {
+fn longer(value: u32, byte: u8) -> Option<u32>
+    ensures { λ r. ⌜ r ≡ longerOf value byte ⌝ }
+{
     match byte {
         b'0'..=b'9' => {
             let longer = value as u64 * 10 + (byte - b'0') as u64;
@@ -60,7 +75,9 @@ fn longer(value: u32, byte: u8) -> Option<u32> {
 }
 
 // A number: digits, and nothing else.
-fn number(text: &[u8]) -> Option<u32> {
+fn number(text: &[u8]) -> Option<u32>
+    ensures { λ r. ⌜ r ≡ numberOf (now (text .entry)) ⌝ }
+{
     if text.is_empty() {
         return None;
     }
@@ -72,7 +89,9 @@ fn number(text: &[u8]) -> Option<u32> {
 }
 
 // A number of one byte.
-fn small(text: &[u8]) -> Option<u8> {
+fn small(text: &[u8]) -> Option<u8>
+    ensures { λ r. ⌜ r ≡ smallOf (now (text .entry)) ⌝ }
+{
     let value = number(text)?;
     if value > 255 {
         return None;
@@ -81,7 +100,9 @@ fn small(text: &[u8]) -> Option<u8> {
 }
 
 // Two numbers with a byte between them.
-fn two_numbers(text: &[u8], between: u8) -> Option<Pair> {
+fn two_numbers(text: &[u8], between: u8) -> Option<Pair>
+    ensures { λ r. ⌜ r ≡ pairOf between (now (text .entry)) ⌝ }
+{
     let at = place_of(text, between);
     if at >= text.len() {
         return None;
@@ -92,7 +113,9 @@ fn two_numbers(text: &[u8], between: u8) -> Option<Pair> {
 }
 
 // A section, `B:P`.
-fn section(text: &[u8]) -> Option<Section> {
+fn section(text: &[u8]) -> Option<Section>
+    ensures { λ r. ⌜ r ≡ sectionOf (now (text .entry)) ⌝ }
+{
     let at = place_of(text, b':');
     if at >= text.len() {
         return None;
@@ -106,7 +129,9 @@ fn section(text: &[u8]) -> Option<Section> {
 }
 
 // An engine and a section, `E B:P`.
-fn request(text: &[u8]) -> Option<Wish> {
+fn request(text: &[u8]) -> Option<Wish>
+    ensures { λ r. ⌜ r ≡ wishOf (now (text .entry)) ⌝ }
+{
     let at = place_of(text, b' ');
     if at >= text.len() {
         return None;
@@ -119,7 +144,9 @@ fn request(text: &[u8]) -> Option<Wish> {
     })
 }
 
-fn take(text: &[u8]) -> Option<Step> {
+fn take(text: &[u8]) -> Option<Step>
+    ensures { λ r. ⌜ r ≡ takeOf (now (text .entry)) ⌝ }
+{
     let wish = request(text)?;
     Some(Step::Take {
         engine: wish.engine,
@@ -127,7 +154,9 @@ fn take(text: &[u8]) -> Option<Step> {
     })
 }
 
-fn free(text: &[u8]) -> Option<Step> {
+fn free(text: &[u8]) -> Option<Step>
+    ensures { λ r. ⌜ r ≡ freeOf (now (text .entry)) ⌝ }
+{
     let wish = request(text)?;
     Some(Step::Free {
         engine: wish.engine,
@@ -135,14 +164,18 @@ fn free(text: &[u8]) -> Option<Step> {
     })
 }
 
-fn deliver(text: &[u8]) -> Option<Step> {
+fn deliver(text: &[u8]) -> Option<Step>
+    ensures { λ r. ⌜ r ≡ deliverOf (now (text .entry)) ⌝ }
+{
     let message = number(text)?;
     Some(Step::Deliver {
         message: message as usize,
     })
 }
 
-fn cut(text: &[u8]) -> Option<Step> {
+fn cut(text: &[u8]) -> Option<Step>
+    ensures { λ r. ⌜ r ≡ cutOf (now (text .entry)) ⌝ }
+{
     let pair = two_numbers(text, b' ')?;
     Some(Step::Cut {
         message: pair.first as usize,
@@ -150,18 +183,24 @@ fn cut(text: &[u8]) -> Option<Step> {
     })
 }
 
-fn second(text: &[u8]) -> Option<Step> {
+fn second(text: &[u8]) -> Option<Step>
+    ensures { λ r. ⌜ r ≡ secondOf (now (text .entry)) ⌝ }
+{
     let number = small(text)?;
     Some(Step::Second(BoxNumber(number)))
 }
 
-fn stop(text: &[u8]) -> Option<Step> {
+fn stop(text: &[u8]) -> Option<Step>
+    ensures { λ r. ⌜ r ≡ stopOf (now (text .entry)) ⌝ }
+{
     let number = small(text)?;
     Some(Step::Stop(BoxNumber(number)))
 }
 
 // The step that a line asks for.
-fn step(line: &[u8]) -> Option<Step> {
+fn step(line: &[u8]) -> Option<Step>
+    ensures { λ r. ⌜ r ≡ stepOf (now (line .entry)) ⌝ }
+{
     if let Some(text) = after(line, b"take ") {
         take(text)
     } else if let Some(text) = after(line, b"free ") {
@@ -179,18 +218,24 @@ fn step(line: &[u8]) -> Option<Step> {
     }
 }
 
-fn is_show(line: &[u8]) -> bool {
+fn is_show(line: &[u8]) -> bool
+    ensures { λ r. ⌜ r ≡ sameBytes (now (line .entry)) (codes "show") ⌝ }
+{
     line == b"show"
 }
 
-fn is_space(byte: u8) -> bool {
+fn is_space(byte: u8) -> bool
+    ensures { λ r. ⌜ r ≡ isSpace byte ⌝ }
+{
     match byte {
         9..=13 | 32 => true,
         0..=8 | 14..=31 | 33..=255 => false,
     }
 }
 
-fn is_blank(line: &[u8]) -> bool {
+fn is_blank(line: &[u8]) -> bool
+    ensures { λ r. ⌜ r ≡ isBlank (now (line .entry)) ⌝ }
+{
     for byte in line {
         if !is_space(*byte) {
             return false;
@@ -200,7 +245,9 @@ fn is_blank(line: &[u8]) -> bool {
 }
 
 // Is a line blank, or a comment.
-pub fn is_passed(line: &[u8]) -> bool {
+pub fn is_passed(line: &[u8]) -> bool
+    ensures { λ r. ⌜ r ≡ isPassed (now (line .entry)) ⌝ }
+{
     match line {
         [b'#', ..] => true,
         _ => is_blank(line),
@@ -208,7 +255,9 @@ pub fn is_passed(line: &[u8]) -> bool {
 }
 
 // What a line of the script says.
-pub fn read(line: &[u8]) -> Line {
+pub fn read(line: &[u8]) -> Line
+    ensures { λ r. ⌜ r ≡ lineOf (now (line .entry)) ⌝ }
+{
     if is_passed(line) {
         return Line::Passed;
     }
@@ -222,7 +271,9 @@ pub fn read(line: &[u8]) -> Line {
 }
 
 // The yard of the first line, `yard BOXES ENGINES`.
-pub fn yard(line: &[u8]) -> Option<Yard> {
+pub fn yard(line: &[u8]) -> Option<Yard>
+    ensures { λ r. ⌜ mapped sizes r ≡ yardOf (now (line .entry)) ⌝ }
+{
     let sizes = two_numbers(after(line, b"yard ")?, b' ')?;
     if sizes.first > MOST as u32 || sizes.second > MOST as u32 {
         return None;
