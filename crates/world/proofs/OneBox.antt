@@ -23,7 +23,7 @@ use Rattle.boxes.specs.Opening.{openFrom}
 use Rattle.world.specs.declared.envelope.Envelope as code
 use Rattle.world.specs.declared.station.Station as held
 use Rattle.world.specs.Station.{Restarts, Station, committed, freshStation, stationOf}
-use Rattle.world.specs.World.{Answer, Either, Envelope, Found, Stops, World, atBox, envelopeOf, isSent, messageAt, said, sentBy, spoken, turnedAway, withMessage}
+use Rattle.world.specs.World.{Answer, Either, Envelope, Found, Stops, World, atBox, envelopeOf, isSent, messageAt, said, sentBy, spoken, stateAt, turnedAway, withMessage}
 
 -- the world of boxes as they are in memory
 abbrev pub world : Yard → List held.Station → List Envelope → World
@@ -94,3 +94,15 @@ with-found w m f e r h q = q ∙ (ap f (h .1) ∙ sym (ap (λ b. cond b (f (mess
 pub with-none : (w : World) (m : ℕ) (f : Envelope → World × Answer) → isSent w m ≡ false → turnedAway w ≡ withMessage w m f
 unfolding withMessage
 with-none w m f h = sym (ap (λ b. cond b (f (messageAt w m)) (turnedAway w)) h)
+
+-- the state of one box of many, and of none
+pub state-here : (y : Yard) (es : List Envelope) (xs : List held.Station) (n : BoxNumber) (x : held.Station) (b : SignalBox) → n .0 < length xs → x ≡ getD xs (n .0) x → b ≡ x .state
+    → Some (stateOf b) ≡ stateAt (world y xs es) n
+state-here y es xs n x b l e q =
+    ap (λ c. Some (stateOf c)) q ∙ (ap (λ (s : Station). Some (s .state)) (sym (here y xs n x l e))
+    ∙ sym (ap (λ t. cond t (Some (getD (map stationOf xs) (n .0) (freshStation y n) .state)) None) (inside xs n l)))
+
+pub no-state : (y : Yard) (es : List Envelope) (xs : List held.Station) (n : BoxNumber) → length xs ≤ n .0 → None ≡ stateAt (world y xs es) n
+no-state y es xs n l =
+    let outside : ltb (n .0) (length (map stationOf xs)) ≡ false = rw (length-map xs stationOf) (le-ltb (n .0) (length xs) l) in
+    sym (ap (λ t. cond t (Some (getD (map stationOf xs) (n .0) (freshStation y n) .state)) None) outside)

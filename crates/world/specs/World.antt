@@ -25,6 +25,7 @@ use Rattle.journal.specs.declared.output.Output.the-variants as output
 use Rattle.journal.specs.Effect.{saidOf}
 use Rattle.boxes.specs.declared.signal_box.Input.the-variants as input
 use Rattle.boxes.specs.Emit.{homeOf}
+use Rattle.boxes.specs.Model.{State}
 use Rattle.world.specs.declared.envelope.Envelope as code
 use Rattle.world.specs.declared.step.Outcome.{Outcome}
 use Rattle.world.specs.declared.step.Outcome.the-variants as outcome
@@ -102,6 +103,10 @@ isBox w n = ltb (n .0) (length (w .stations))
 -- a box with its file; where there is none, one of which there is no record
 abbrev pub stationAt : World → BoxNumber → Station
 stationAt w n = getD (w .stations) (n .0) (freshStation (w .yard) n)
+
+-- the state of a box, if there is such a box
+abbrev pub stateAt : World → BoxNumber → Option State
+stateAt w n = cond (isBox w n) (Some (stationAt w n .state)) None
 
 -- an input at one box
 unfoldable pub atBox : World → BoxNumber → (Station → Station × List Output) → World × Answer

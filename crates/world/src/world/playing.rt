@@ -2,10 +2,12 @@
 ghost use mathlib.Core.Path.{_≡_};
 ghost use mathlib.Core.List.{List, [], _∷_, _++_, map};
 ghost use Rattle.std.specs.Of.Vec.{vec-items};
+ghost use Rattle.std.specs.Options.{mapped};
 ghost use Rattle.std.specs.Vec.{made};
+ghost use Rattle.boxes.specs.Model.{stateOf};
 ghost use Rattle.std.specs.shelf.Lists.{joined};
 ghost use Rattle.world.specs.Station.{deliveredAt, handledAt};
-ghost use Rattle.world.specs.World.{Makes, Stops, answerOf, atBox, carried, carriedCut, cutOf, deliverOf, empty, envelopeFor, envelopeOf, freeOf, secondOf, sentBy, spoken, takeOf, worldOf};
+ghost use Rattle.world.specs.World.{Makes, Stops, answerOf, atBox, carried, carriedCut, cutOf, deliverOf, empty, envelopeFor, envelopeOf, freeOf, secondOf, sentBy, spoken, stateAt, takeOf, worldOf};
 ghost use Rattle.journal.specs.Effect.{saidOf};
 ghost use Rattle.world.specs.World.{Found};
 use crate::envelope::Envelope;
@@ -93,11 +95,15 @@ impl World {
     }
 
     // All messages ever sent, in the order of sending.
-    pub fn sent(&self) -> &[Envelope] {
+    pub fn sent(&self) -> &[Envelope]
+        ensures { λ r. ⌜ map envelopeOf (now r) ≡ worldOf (now (self .entry)) .sent ⌝ }
+    {
         self.sent.as_slice()
     }
 
-    pub fn signal_box(&self, number: BoxNumber) -> Option<&SignalBox> {
+    pub fn signal_box(&self, number: BoxNumber) -> Option<&SignalBox>
+        ensures { λ r. ⌜ mapped (λ b. stateOf (b .now)) r ≡ stateAt (worldOf (now (self .entry))) number ⌝ }
+    {
         if number.0 as usize >= self.stations.len() {
             return None;
         }
