@@ -1,4 +1,6 @@
 // Theorems about a whole box, each named by the contract of a function.
+#![tactic(auto)]
+
 ghost use Rattle.box_laws.specs.Runs.{RecordsStandForIt};
 ghost use Rattle.box_laws.specs.Again.{RecordsInRange, SameBytesAgain};
 ghost use Rattle.box_laws.specs.Away.{TurnedAwayByABox};

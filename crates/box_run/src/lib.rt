@@ -1,4 +1,6 @@
 // A box as a process: lines in, its file, lines out.
+#![tactic(auto)]
+
 mod coming_up;
 mod feeding;
 mod own;

@@ -1,4 +1,6 @@
 // A signal box: the keeper of its sections and the home of its engines, as one function from an input to effects.
+#![tactic(auto)]
+
 mod emit;
 mod handle;
 mod keeping;

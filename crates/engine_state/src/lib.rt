@@ -1,4 +1,6 @@
 // One engine at its home: its calls, its waits, what it holds, and what comes of each input, by value.
+#![tactic(auto)]
+
 mod inputs;
 mod places;
 mod state;

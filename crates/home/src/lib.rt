@@ -1,4 +1,6 @@
 // The home's half of a signal box: its engines, each input at one of them, without input or output.
+#![tactic(auto)]
+
 mod home;
 mod inputs;
 mod queries;

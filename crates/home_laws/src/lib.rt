@@ -1,4 +1,6 @@
 // Theorems about a home, each named by the contract of a function.
+#![tactic(auto)]
+
 ghost use Rattle.home_laws.specs.Told.{EventTells};
 ghost use Rattle.home_laws.specs.Again.{OrderedKept, SameAgain};
 ghost use Rattle.home_laws.specs.Held.{FreedIsNotHeld, ToldOfWhatIsHeld};

@@ -1,4 +1,6 @@
 // The file of a box: what is recorded, synced, said only then, and read back after a stop.
+#![tactic(auto)]
+
 mod after_stop;
 mod disk;
 mod effects;

@@ -1,4 +1,6 @@
 // Reads a list of who waits for whom, a line `E WAITSFOR|- SHOWN OWN` for each engine, and prints each ring of waits and who finds it.
+#![tactic(auto)]
+
 use ring_search::listing::Listing;
 use ring_search::{Ring, rings};
 use std::alloc::{AllocError, Global};

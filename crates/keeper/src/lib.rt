@@ -1,4 +1,6 @@
 // The keeper's half of a box: calls to its sections, in the order of their numbers, each answered once and for all.
+#![tactic(auto)]
+
 ghost use Rattle.std.specs.Prelude.{◌≡◌, length};
 
 mod asking;

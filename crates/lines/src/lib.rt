@@ -1,4 +1,6 @@
 // A box's lines: messages in hexadecimal behind a box's number, and what a driver asks for.
+#![tactic(auto)]
+
 mod line;
 mod promises;
 

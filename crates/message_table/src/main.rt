@@ -1,4 +1,6 @@
 // Reads rows of numbers, a yard's boxes and engines and then bytes, and says what the bytes are, whole and cut at every byte.
+#![tactic(auto)]
+
 ghost use Rattle.std.specs.Prelude.{◌≤◌, length};
 
 use anyhow::anyhow;

@@ -1,4 +1,6 @@
 // Messages between boxes and records of a box's file: their bytes, and what is turned away.
+#![tactic(auto)]
+
 mod decoder;
 mod encoded;
 mod encoder;

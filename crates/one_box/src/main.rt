@@ -1,4 +1,6 @@
 // Plays a script of calls on the sections of one box, and prints one line of answer for each.
+#![tactic(auto)]
+
 mod play;
 mod script;
 

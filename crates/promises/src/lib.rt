@@ -1,4 +1,6 @@
 // What is promised of every world that steps lead to, each named by the contract of a function.
+#![tactic(auto)]
+
 mod had;
 mod rings;
 mod steps;

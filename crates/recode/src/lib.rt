@@ -1,4 +1,6 @@
 // For callers in C and plain Rust: one message, read and written again.
+#![tactic(auto)]
+
 ghost use Rattle.std.specs.Prelude.{◌≡◌};
 ghost use Rattle.recode.specs.Again.{Again};
 

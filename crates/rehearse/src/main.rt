@@ -1,4 +1,6 @@
 // Plays a script over boxes that run together, and prints what they send and say.
+#![tactic(auto)]
+
 mod script;
 mod show;
 mod text;

@@ -1,4 +1,6 @@
 // The rings of waits in a table of engines, and who finds each.
+#![tactic(auto)]
+
 ghost use Rattle.std.specs.Prelude.{◌≡◌, ℕ, [], map, IfOk, vec_items, OnOk};
 ghost use Rattle.std.specs.Option.{option_map};
 ghost use Rattle.ring_search.specs.Exactly.{Exactly};

@@ -1,4 +1,6 @@
 // The promises of the net of engines that wait for one another and tell signs, each carried by a function's contract.
+#![tactic(auto)]
+
 ghost use Rattle.rings.specs.Cases.{AlwaysCases};
 ghost use Rattle.rings.specs.Promise.{AlwaysReal, OnlyHighest, OneFinder, RingStays, OwnSigns, OnlyUp, AlwaysCodeSteps, AlwaysFound, FoundInAnyRun};
 

@@ -12,7 +12,7 @@ use Rattle.sections.specs.Table.{Section, Table, empty, free_outcome, free_secti
 use Rattle.sections.specs.Sound.{HoldersKnown, InOrder, NobodyForFree, NobodyItsOwn, NobodyTwice, OneQueue, WaitersKnown, once}
 use Rattle.sections.specs.Layout.{AllFit, AllMatch, Fits, Matches, Placed, engines_of, holds, idle_row, section_of, table_of_rows}
 use Rattle.sections.specs.Model.{table_of}
-use Rattle.sections.proofs.Sound.{Sound, not_true, quiet_sound}
+use Rattle.sections.proofs.Sound.{Sound, not-true, quiet_sound}
 use Rattle.sections.proofs.Tables.{section_at, set_read, table_set, waits_nowhere}
 use Rattle.sections.proofs.Lists.{at_most}
 
@@ -88,7 +88,7 @@ pub room_for : (x : Sections) (e p : ℕ) → e < 64 → waits e (table_of x) �
 room_for x e p below n =
     let q = (get_or x.rows p idle_row).queue in
     let i = row_order x p in
-    let out : is_in e (engines_of q) ≡ false = not_true (is_in e (engines_of q)) (λ w. waits_nowhere e (table_of x) n p (ap (λ s. is_in e s.queue) (section_at x.rows p) ∙ w)) in
+    let out : is_in e (engines_of q) ≡ false = not-true (is_in e (engines_of q)) (λ w. waits_nowhere e (table_of x) n p (ap (λ s. is_in e s.queue) (section_at x.rows p) ∙ w)) in
     let once : (not (is_in e (engines_of q)) && once (engines_of q)) ≡ true = and_from (not (is_in e (engines_of q))) (once (engines_of q)) (ap not out) i.twice in
     let each : (y : ℕ) → is_in y (e ∷ engines_of q) ≡ true → y < 64 = λ y w. elim (or_cases (eqb e y) (is_in y (engines_of q)) w) [ inl h ↦ rw (eqb-true e y h) at below | inr h ↦ i.waiters y h ] in
     omega (arith, at_most 64 (e ∷ engines_of q) once each, length-take-le q.length q.engines (x.fitting p))

@@ -2,7 +2,7 @@
 use Rattle.std.proofs.Common.{◌≡◌, ℕ, zero, suc, ◌+◌, ◌<◌, ◌≤◌, Bool, true, false, cond, not, ◌&&◌, ◌||◌, eqb, ltb, ◌⊎◌, List, [], ◌∷◌, ◌++◌, length, replicate, Ok, Err, Result, sym, refl, ap, ◌∙◌, inl, inr, arith}
 use Rattle.std.proofs.lemmas.Bool.Decides.{nat_tests}
 use Rattle.std.proofs.lemmas.List.{get_or-replicate, get_or_past}
-use Rattle.std.proofs.lemmas.Bool.{both_ways, cond_both, cases_eq, cases_lt, eqb-false, eqb-true, eq-eqb, ltb-true, and_parts, or_cases, or_left, or_right, not_true as bool-not-true}
+use Rattle.std.proofs.lemmas.Bool.{both_ways, cond_both, cases_eq, cases_lt, eqb-false, eqb-true, eq-eqb, ltb-true, and_parts, or_cases, or_left, or_right, not-true as bool-not-true}
 use Rattle.sections.specs.declared.Holder.{Holder}
 use Rattle.sections.specs.declared.Holder.TheVariants.{Free, Engine}
 use Rattle.sections.specs.declared.Done.{Done}
@@ -52,9 +52,9 @@ settled t p (Err refusal) sound k = sound
 abbrev pub Idle : Table → ℕ → Type 0
 Idle t e = (q : ℕ) → WaitsAt t e q → ⊥
 
-pub not_true : (b : Bool) → (b ≡ true → ⊥) → b ≡ false
-not_true true h = absurd (h refl)
-not_true false h = refl
+pub not-true : (b : Bool) → (b ≡ true → ⊥) → b ≡ false
+not-true true h = absurd (h refl)
+not-true false h = refl
 
 joined_cases : (y e : ℕ) (q : List ℕ) → is_in y (q ++ e ∷ []) ≡ true → (e ≡ y) ⊎ (is_in y q ≡ true)
 joined_cases y e q w = elim (or_cases (eqb e y) (is_in y q) (sym (is_in_push y e q) ∙ w)) [ inl k ↦ inl (eqb-true e y k) | inr k ↦ inr k ]
@@ -140,7 +140,7 @@ take_keeps t e p sound =
     by below idle Free h = cond_both (changeable (place_at t p)) _ _ (Keeps t p) (λ _. (taken_order (place_at t p) e (sound.order p) below h, λ y w. inl w)) (λ _. tt)
     by below idle (Engine f) h =
         cond_both (eqb f e) _ _ (Keeps t p) (λ _. tt)
-        (λ n. (joined_order (place_at t p) e f (sound.order p) below (not_true (is_in e (queue_at t p)) (idle p)) h (eqb-false f e n), few idle))
+        (λ n. (joined_order (place_at t p) e f (sound.order p) below (not-true (is_in e (queue_at t p)) (idle p)) h (eqb-false f e n), few idle))
 
 pub free_keeps : (t : Table) (e p : ℕ) → Sound t → Keeps t p (free_outcome t e p)
 free_keeps t e p sound = unless_either t e p (free_section (place_at t p) e) (Keeps t p) (λ _. tt) (λ _. by (place_at t p).has)

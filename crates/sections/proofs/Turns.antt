@@ -8,7 +8,7 @@ use Rattle.sections.specs.Table.{Outcome, Section, Table, changeable, first_of, 
 use Rattle.sections.specs.Sound.{WaitsAt}
 use Rattle.sections.specs.Promise.{FirstServed, InTurn, ahead}
 use Rattle.sections.proofs.Lists.{is_in_push, is_in_without}
-use Rattle.sections.proofs.Sound.{not_both, not_true, same_engine}
+use Rattle.sections.proofs.Sound.{not_both, not-true, same_engine}
 use Rattle.sections.proofs.Tables.{put_read, unless_either, waits_nowhere}
 
 -- one section before and after
@@ -54,7 +54,7 @@ take_fair t e p = unless_either t e p (take_section (place_at t p) e) (FairOutco
     by n (Engine f) h =
         cond_both (eqb f e) _ _ (FairOutcome (place_at t p)) (λ _. tt)
         (λ _. record {
-          turn = λ one other w. ahead_push one other e (queue_at t p) w (not_true (is_in e (queue_at t p)) (waits_nowhere e t n p));
+          turn = λ one other w. ahead_push one other e (queue_at t p) w (not-true (is_in e (queue_at t p)) (waits_nowhere e t n p));
           first = λ old new o q n. same_holder (place_at t p).has old new o q n _;
         })
 

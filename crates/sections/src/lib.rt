@@ -1,4 +1,6 @@
 // One box's 64 sections: who has each, who waits for it and in what order.
+#![tactic(auto)]
+
 ghost use Rattle.std.specs.Prelude.{◌≡◌, length};
 ghost use Rattle.sections.specs.Bytes.{number_of, answer_byte, who_byte};
 ghost use Rattle.sections.specs.Layout.{AllMatch, AllFit, table_of_rows};

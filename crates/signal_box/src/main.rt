@@ -1,4 +1,6 @@
 // The program `box`: one box as a process, its file `yard` in the folder in which it is started.
+#![tactic(auto)]
+
 mod ending;
 
 use box_run::{CameUp, Which, come_up, of_boxes, of_sixteen, print, serve, whole_lines};

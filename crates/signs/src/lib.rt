@@ -1,4 +1,6 @@
 // An engine that waits for another, and its signs: it begins to wait, hears what is told, and finds that it stands in a ring of waits.
+#![tactic(auto)]
+
 ghost use Rattle.std.specs.Prelude.{◌≡◌, ◌^◌, ◌<◌, ◌≤◌, IfOk};
 ghost use Rattle.signs.specs.Signs.{number_of, ahead_of, next_own, waits_by, begin_of, hear_of, find_of, listen_of};
 ghost use Rattle.signs.specs.Lowest.{Lowest};

@@ -1,5 +1,7 @@
 // One message, handled again and again by a full box: for counting instructions.
 // Each line of the input is a kind of message and how often it is handled.
+#![tactic(auto)]
+
 mod full;
 mod kind;
 

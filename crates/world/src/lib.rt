@@ -1,4 +1,6 @@
 // Boxes that run together: whatever was sent can be delivered late, twice, cut short or never, and every box can stop.
+#![tactic(auto)]
+
 mod envelope;
 mod station;
 mod step;

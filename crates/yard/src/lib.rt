@@ -1,4 +1,6 @@
 // What is promised of the whole yard, sections and signs together. Each function carries one promise in its contract, and does nothing.
+#![tactic(auto)]
+
 ghost use Rattle.yard.specs.Found.{Found, FoundInEveryRun};
 ghost use Rattle.yard.specs.Needed.{RingOfThree, RoundCanBeTold, TellingAfterFreeing, SignBeforeQueue, EarlierCount, KeptSign, OwnSignAgain};
 ghost use Rattle.yard.specs.Order.{OneAtATime, OnePlace, SomebodyHas, FirstGets, NoOvertaking, Behind, TurnHasCome, OwnDiffer, ShownRises, OnlyTaken};

@@ -16,7 +16,7 @@ returns c =
     let x = c.args.self.now in
     let e = c.args.engine in
     let p = c.args.place in
-    let none = sym c.in-default.ensures in
+    let none = sym c.in_default.ensures in
     record {
       after = c.freed.ensures.after ∙ free_here x e p none;
       storable = c.freed.ensures.storable;

@@ -12,7 +12,7 @@ use Rattle.sections.proofs.Sections.give_up.Goals as goal
 pub settle-requires : goal.settle-requires
 settle-requires c =
     let x = c.args.self.now in
-    let outcome = c.give-up-outcome-outcome.ensures in
+    let outcome = c.give_up_outcome-outcome.ensures in
     record {
       storable = outcome.storable;
       placed = outcome.placed;
@@ -24,7 +24,7 @@ returns c =
     let t = table_of c.args.self.now in
     let e = c.args.engine in
     let p = c.args.place in
-    let after = c.settle.ensures ∙ ap (settle t p) c.give-up-outcome-outcome.ensures.after in
+    let after = c.settle.ensures ∙ ap (settle t p) c.give_up_outcome-outcome.ensures.after in
     let same = sym (ap (λ z. z.0) after) in
     record {
       after = after;

@@ -6,7 +6,7 @@ use Rattle.sections.proofs.Sections.give_up_outcome.Goals as goal
 pub returns : goal.returns
 returns c =
     record {
-      after = c.given-up.ensures.after ∙ give_up_here c.args.self.now c.args.engine c.args.place c.if-engine-ge-ENGINES.false c.if-place-ge-PLACES.false;
-      storable = c.given-up.ensures.storable;
-      placed = placed c.args.place c.given-up.result c.if-place-ge-PLACES.false;
+      after = c.given_up.ensures.after ∙ give_up_here c.args.self.now c.args.engine c.args.place c.if-engine-ge-ENGINES.false c.if-place-ge-PLACES.false;
+      storable = c.given_up.ensures.storable;
+      placed = placed c.args.place c.given_up.result c.if-place-ge-PLACES.false;
     }

@@ -3,5 +3,5 @@ use Rattle.std.proofs.Common.{refl, arith}
 use Rattle.sections.proofs.Rows.{holds_none, owed_empty}
 use Rattle.sections.proofs.Sections.new.Goals as goal
 
-pub invariant-of-result : goal.invariant-of-result
-invariant-of-result c = owed_empty _ refl refl (λ e h. holds_none e) (omega arith)
+pub invariant_of-result : goal.invariant_of-result
+invariant_of-result c = owed_empty _ refl refl (λ e h. holds_none e) (omega arith)

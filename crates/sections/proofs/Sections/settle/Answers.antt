@@ -9,8 +9,8 @@ use Rattle.sections.proofs.Sound.{sound_put}
 use Rattle.sections.proofs.Tables.{table_set}
 use Rattle.sections.proofs.Sections.settle.Goals as goal
 
-pub invariant-of-self : goal.invariant-of-self
-invariant-of-self c =
+pub invariant_of-self : goal.invariant_of-self
+invariant_of-self c =
     let x = c.args.self.now in
     let p = c.args.place in
     let r = c.in-ok-row.row in
@@ -23,5 +23,5 @@ pub returns : goal.returns
 returns c =
     let x = c.args.self.now in
     let p = c.args.place in
-    ap (λ t. (t, Ok c.in-ok-row.done)) (table_set x.rows p c.in-ok-row.row) ∙
-    sym (ap (λ o. settle (table_of x) p (outcome_of o)) c.in-ok-row.was)
+    ap (λ t. (t, Ok c.in_ok-row.done)) (table_set x.rows p c.in_ok-row.row) ∙
+    sym (ap (λ o. settle (table_of x) p (outcome_of o)) c.in_ok-row.was)

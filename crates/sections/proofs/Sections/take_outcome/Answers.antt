@@ -10,7 +10,7 @@ taken-requires c =
     let x = c.args.self.now in
     let e = c.args.engine in
     let p = c.args.place in
-    let free = not_refused (table_of x) e p (sym c.in-default.ensures) in
+    let free = not_refused (table_of x) e p (sym c.in_default.ensures) in
     record { fitting = x.fitting p; matched = x.matched p; room = room_for x e p free.0 free.2; known = free.0 }
 
 pub returns : goal.returns
@@ -18,7 +18,7 @@ returns c =
     let x = c.args.self.now in
     let e = c.args.engine in
     let p = c.args.place in
-    let none = sym c.in-default.ensures in
+    let none = sym c.in_default.ensures in
     record {
       after = c.taken.ensures.after ∙ take_here x e p none;
       storable = c.taken.ensures.storable;

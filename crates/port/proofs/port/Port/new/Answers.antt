@@ -3,5 +3,5 @@ use Rattle.world.specs.World.{world_of}
 use Rattle.port.proofs.Reach.{from_nothing}
 use Rattle.port.proofs.port.Port.new.Goals as goal
 
-pub invariant-of-result : goal.invariant-of-result
-invariant-of-result c = (∣ from_nothing (world_of c.in-ok-world.world) c.args.yard c.in-ok-world.ensures ∣₁, tt)
+pub invariant_of-result : goal.invariant_of-result
+invariant_of-result c = (∣ from_nothing (world_of c.in-ok-world.world) c.args.yard c.in-ok-world.ensures ∣₁, tt)

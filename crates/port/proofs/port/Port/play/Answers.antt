@@ -5,8 +5,8 @@ use Rattle.port.proofs.Promised.{step_promised}
 use Rattle.port.proofs.Reach.{step_on}
 use Rattle.port.proofs.port.Port.play.Goals as goal
 
-pub invariant-of-result : goal.invariant-of-result
-invariant-of-result c = (
+pub invariant_of-result : goal.invariant_of-result
+invariant_of-result c = (
   ∥∥₁_map c.args.self.reached
       (λ r. step_on (world_of c.args.self.world) (world_of c.play.new.self) c.args.step (answer_of c.in-ok-outcome.outcome) r c.in-ok-outcome.ensures),
   tt,

@@ -15,7 +15,7 @@ returns c =
       after = after;
       fitting = omega (arith, length-set q.engines q.length c.args.engine);
       matched = λ y h.
-          ap (λ word. holds word y) c.with-engine.ensures ∙ holds_set q.«set» c.args.engine y c.requires.known ∙
+          ap (λ word. holds word y) c.with_engine.ensures ∙ holds_set q.«set» c.args.engine y c.requires.known ∙
           ap (λ t. eqb c.args.engine y || t) (c.requires.matched y h) ∙
           sym (is_in_push y c.args.engine (engines_of q)) ∙ sym (ap (is_in y) after);
     }

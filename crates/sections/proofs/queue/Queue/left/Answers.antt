@@ -11,7 +11,7 @@ pub returns : goal.returns
 returns c =
     let q = c.args.self in
     let e = c.args.engine in
-    let u = c.close-up-length in
+    let u = c.close_up-length in
     let whole : q.length - 0 ≡ q.length = omega arith in
     let front : take u.result u.new.queue ≡ without e (engines_of q) = u.ensures.left ∙ ap (λ n. without e (take n q.engines)) whole in
     let after = take-append-le u.result u.new.queue (drop (q.length - 0) q.engines) (omega arith) ∙ front in
@@ -19,7 +19,7 @@ returns c =
       after = after;
       fitting = omega (arith, length-append u.new.queue (drop (q.length - 0) q.engines));
       matched = λ y h.
-          ap (λ word. holds word y) c.without-engine.ensures ∙ holds_clear q.«set» e y c.requires.known ∙
+          ap (λ word. holds word y) c.without_engine.ensures ∙ holds_clear q.«set» e y c.requires.known ∙
           ap (λ t. not (eqb e y) && t) (c.requires.matched y h) ∙
           sym (is_in_without y e (engines_of q)) ∙ sym (ap (is_in y) after);
     }
