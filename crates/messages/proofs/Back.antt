@@ -1,5 +1,5 @@
 -- A message in range is read back from its bytes: each field by itself, then each kind.
-use Rattle.std.proofs.Common.{◌≡◌, ℕ, ◌<◌, ◌≤◌, Bool, true, false, cond, ◌&&◌, eqb, ltb, List, [], ◌∷◌, ◌++◌, Some, None, Option, sym, refl, ap, ◌∙◌, arith}
+use Rattle.std.proofs.Common.{◌≡◌, ℕ, Bool, cond, List, ◌∷◌, ◌++◌, Some, Option, refl, ap, ◌∙◌, arith}
 use Rattle.std.proofs.lemmas.Bool.{and_from, lt-ltb, ne_eqb}
 use Rattle.messages.specs.declared.yard.Yard.{Yard}
 use Rattle.messages.specs.declared.yard.Engine.{Engine}
@@ -9,16 +9,14 @@ use Rattle.messages.specs.declared.message.Act.TheVariants as act
 use Rattle.messages.specs.declared.message.Call.{Call}
 use Rattle.messages.specs.declared.message.Holder.{Holder}
 use Rattle.messages.specs.declared.message.Holder.TheVariants as holder
-use Rattle.messages.specs.declared.message.Refusal.{Refusal}
 use Rattle.messages.specs.declared.message.Refusal.TheVariants as refusal
 use Rattle.messages.specs.declared.message.Reply.{Reply}
 use Rattle.messages.specs.declared.message.Reply.TheVariants as reply
-use Rattle.messages.specs.declared.message.Message.{Message}
 use Rattle.messages.specs.declared.message.Message.TheVariants as message
 use Rattle.messages.specs.Promises.{ReadsBack}
-use Rattle.messages.specs.Range.{CallIn, EngineIn, HolderIn, MessageIn, ReplyIn, SectionIn}
-use Rattle.messages.specs.Reading.{call_of, calling, engine_of, holder_of, kind_of, message_of, reply_of, section_of, unless, and_then}
-use Rattle.messages.specs.Table.{act_byte, bytes_of, call_bytes, four, holder_byte, reply_byte, reply_end, two}
+use Rattle.messages.specs.Range.{CallIn, EngineIn, HolderIn, ReplyIn, SectionIn}
+use Rattle.messages.specs.Reading.{call_of, calling, engine_of, holder_of, kind_of, reply_of, section_of, unless, and_then}
+use Rattle.messages.specs.Table.{act_byte, four, holder_byte, reply_byte, reply_end, two}
 use Rattle.messages.proofs.Numbers.{eight_back, four_back}
 
 pub engine_back : (y : Yard) (e : Engine) → EngineIn y e → engine_of y e.0 ≡ Some e

@@ -1,5 +1,5 @@
 -- The decoder's answer is the one message that is written so, or there is none.
-use Rattle.std.proofs.Common.{◌≡◌, ℕ, List, Some, None, Option, Result, sym, refl, ap, ◌∙◌, subst, arith}
+use Rattle.std.proofs.Common.{◌≡◌, ℕ, List, Some, None, Option, Result, sym, refl, ap, ◌∙◌, subst}
 use Rattle.std.specs.Option.{ok_or}
 use Rattle.messages.specs.declared.yard.Yard.{Yard}
 use Rattle.messages.specs.declared.message.Message.{Message}
@@ -7,7 +7,6 @@ use Rattle.messages.specs.declared.message.Refusal.{Refusal}
 use Rattle.messages.specs.declared.message.Refusal.TheVariants as refusal
 use Rattle.messages.specs.Promises.{Bytes, Decoded}
 use Rattle.messages.specs.Reading.{message_of}
-use Rattle.messages.specs.Table.{bytes_of}
 use Rattle.messages.proofs.Back.{reads_back}
 use Rattle.messages.proofs.Forms.{clash, one_form}
 

@@ -1,7 +1,7 @@
 -- Whatever is read was written so: a reader's answer is taken apart test by test, and its fields are the bytes.
-use Rattle.std.proofs.Common.{◌≡◌, ℕ, zero, suc, ◌+◌, ◌*◌, ◌^◌, ◌<◌, ◌≤◌, Bool, true, false, cond, ◌&&◌, eqb, ltb, leb, ◌⊎◌, List, [], ◌∷◌, ◌++◌, length, get_or, drop, Some, None, Option, sym, refl, ap, ◌∙◌, subst, inl, inr, arith, drop-cons}
+use Rattle.std.proofs.Common.{◌≡◌, ℕ, zero, suc, ◌+◌, ◌^◌, ◌<◌, ◌≤◌, Bool, true, false, cond, ◌&&◌, eqb, ltb, leb, ◌⊎◌, List, [], ◌∷◌, ◌++◌, length, get_or, drop, Some, None, Option, sym, refl, ap, ◌∙◌, subst, inl, inr, arith, drop-cons}
 use Rattle.std.proofs.lemmas.List.{drop_all}
-use Rattle.std.proofs.lemmas.Bool.{and_parts, cases_Bool, cases_eq, eqb-true, leb-true, ltb-true}
+use Rattle.std.proofs.lemmas.Bool.{and_parts, eqb-true, leb-true, ltb-true}
 use Rattle.messages.specs.declared.yard.Yard.{Yard}
 use Rattle.messages.specs.declared.yard.Engine.{Engine}
 use Rattle.messages.specs.declared.yard.Section.{Section}
@@ -15,11 +15,10 @@ use Rattle.messages.specs.declared.message.Refusal.TheVariants as refusal
 use Rattle.messages.specs.declared.message.Reply.{Reply}
 use Rattle.messages.specs.declared.message.Reply.TheVariants as reply
 use Rattle.messages.specs.declared.message.Message.{Message}
-use Rattle.messages.specs.declared.message.Message.TheVariants as message
 use Rattle.messages.specs.Promises.{Bytes, OneForm}
-use Rattle.messages.specs.Range.{CallIn, EngineIn, HolderIn, MessageIn, ReplyIn, SectionIn}
-use Rattle.messages.specs.Reading.{and_then, answer_of, call_of, calling, change_of, engine_of, four_at, eight_at, holder_of, kind_of, message_of, refusal_of, reply_of, section_of, sign_of, unless, waits_of, which_of}
-use Rattle.messages.specs.Table.{act_byte, bytes_of, call_bytes, eight, four, holder_byte, refusal_number, reply_byte, reply_end, two}
+use Rattle.messages.specs.Range.{CallIn, HolderIn, MessageIn, ReplyIn}
+use Rattle.messages.specs.Reading.{and_then, answer_of, call_of, calling, change_of, engine_of, four_at, eight_at, holder_of, kind_of, refusal_of, reply_of, section_of, sign_of, unless, waits_of, which_of}
+use Rattle.messages.specs.Table.{act_byte, bytes_of, call_bytes, eight, four, holder_byte, refusal_number, reply_byte, reply_end}
 use Rattle.messages.proofs.Numbers.{eight_of, four_of}
 
 -- n places of a list from i on

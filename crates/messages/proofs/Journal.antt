@@ -1,16 +1,15 @@
 -- A record is read back from its bytes, and whatever is read was written so.
-use Rattle.std.proofs.Common.{◌≡◌, ℕ, suc, ◌+◌, ◌<◌, ◌≤◌, Bool, true, false, cond, eqb, leb, ◌⊎◌, List, [], ◌∷◌, ◌++◌, length, get_or, drop, Some, None, Option, sym, refl, ap, ◌∙◌, subst, inl, inr, arith}
-use Rattle.std.proofs.lemmas.Bool.{eqb-true, ne_eqb}
+use Rattle.std.proofs.Common.{◌≡◌, ℕ, suc, eqb, leb, List, [], ◌∷◌, ◌++◌, length, get_or, Some, Option, sym, refl, ap, ◌∙◌, subst}
 use Rattle.messages.specs.declared.yard.Yard.{Yard}
 use Rattle.messages.specs.declared.message.Act.{Act}
 use Rattle.messages.specs.declared.message.Act.TheVariants as act
 use Rattle.messages.specs.declared.message.Call.{Call}
 use Rattle.messages.specs.declared.message.Record.{Record}
 use Rattle.messages.specs.declared.message.Record.TheVariants as journal
-use Rattle.messages.specs.Journal.{act_of, beginning_of, heard_of, kept_of, made_of, record_kind, record_of, size_of, whole_call}
+use Rattle.messages.specs.Journal.{act_of, beginning_of, heard_of, kept_of, made_of, record_kind, record_of, whole_call}
 use Rattle.messages.specs.Promises.{Bytes}
 use Rattle.messages.specs.Range.{CallIn, RecordIn}
-use Rattle.messages.specs.Reading.{and_then, call_of, eight_at, engine_of, four_at, section_of, unless}
+use Rattle.messages.specs.Reading.{and_then, call_of, eight_at, four_at}
 use Rattle.messages.specs.Table.{act_byte, call_bytes, eight, four, record_bytes, two}
 use Rattle.messages.proofs.Back.{call_back, engine_back, section_back}
 use Rattle.messages.proofs.Forms.{by_kind, call_got, clash, eight_at_lem, eight_lt, engine_then, four_at_lem, four_lt, got, places, section_then, some, spelled, when}

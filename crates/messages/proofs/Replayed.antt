@@ -1,11 +1,11 @@
 -- A file has one list of records, so what a reader finds in records with a cut one behind them is those.
-use Rattle.std.proofs.Common.{◌≡◌, ℕ, List, [], ◌++◌, length, drop, Ok, Err, vec_items, Result, refl, ap, ◌∙◌, subst}
+use Rattle.std.proofs.Common.{◌≡◌, ℕ, List, ◌++◌, length, drop, Ok, Err, vec_items, Result, refl, ap, ◌∙◌, subst}
 use Rattle.messages.specs.declared.yard.Yard.{Yard}
 use Rattle.messages.specs.declared.message.Record.{Record}
 use Rattle.messages.specs.declared.records.Replay.{Replay}
 use Rattle.messages.specs.declared.records.Unread.{Unread}
 use Rattle.messages.specs.declared.records.Unread.TheVariants as unread
-use Rattle.messages.specs.Journal.{AllIn, CutReadsBack, Holds, ReadAs, ReadIs, Short, written}
+use Rattle.messages.specs.Journal.{CutReadsBack, Holds, ReadAs, ReadIs, Short, written}
 use Rattle.messages.proofs.Fronts.{cut_is_short, one_list}
 
 read_as : (y : Yard) (xs : List ℕ) (rs : List Record) (t : List ℕ) (a : Result Replay Unread) → Holds y xs rs t → ReadIs y xs a → ReadAs rs a

@@ -11,21 +11,21 @@ use Rattle.box_run.proofs.feeding.feed_all.Goals as goal
 pub loop-rest-smaller : goal.loop-rest-smaller
 loop-rest-smaller c =
     let some = eqb-false (length c.loop-rest.rest.now) 0 (sym c.loop-rest-test.ensures) in
-    let left : length c.after-line-rest.result.now ≡ length (drop (c.line-end-end.result + 1) c.loop-rest.rest.now) = ap length c.after-line-rest.ensures in
-    omega (arith, some, left, length-drop (c.line-end-end.result + 1) c.loop-rest.rest.now)
+    let left : length c.after_line-rest.result.now ≡ length (drop (c.line_end-end.result + 1) c.loop-rest.rest.now) = ap length c.after_line-rest.ensures in
+    omega (arith, some, left, length-drop (c.line_end-end.result + 1) c.loop-rest.rest.now)
 
 pub loop-rest-preserved : goal.loop-rest-preserved
 loop-rest-preserved c =
     let xs = c.loop-rest.rest.now in
-    let e = c.line-end-end.result in
+    let e = c.line_end-end.result in
     let some = eqb-false (length xs) 0 (sym c.loop-rest-test.ensures) in
-    let found = c.line-end-end.ensures in
-    let cut : lines_in xs ≡ take e xs ∷ lines_in c.after-line-rest.result.now =
-    first_line xs e (omega (arith, some)) found.within found.before found.found ∙ ap (λ r. take e xs ∷ lines_in r) (sym c.after-line-rest.ensures)
+    let found = c.line_end-end.ensures in
+    let cut : lines_in xs ≡ take e xs ∷ lines_in c.after_line-rest.result.now =
+    first_line xs e (omega (arith, some)) found.within found.before found.found ∙ ap (λ r. take e xs ∷ lines_in r) (sym c.after_line-rest.ensures)
     in
     λ q f.
     let P : List (List ℕ) → Type 0 = λ ls. FedEach ls (state_of c.loop-rest.state, log_of c.loop-rest.effects) q in
-    c.loop-rest.invariant q (subst P (sym cut) ((state_of c.feed.new.state, log_of c.feed.new.effects), c.in-ok-feed.ensures, f))
+    c.loop-rest.invariant q (subst P (sym cut) ((state_of c.feed.new.state, log_of c.feed.new.effects), c.in_ok-feed.ensures, f))
 
 pub returns : goal.returns
 returns c =

@@ -4,5 +4,5 @@ use Rattle.box_run.proofs.Joins.{a_line}
 use Rattle.box_run.proofs.text.add_line.Goals as goal
 
 pub returns : goal.returns
-returns c = a_line c.args.own c.args.output (vec_items c.args.text.now) (vec_items c.add-output.new.text) (vec_items c.extend-from-slice.new.self) c.extend-from-slice.result
-    (sym c.is-own.ensures ∙ c.if-is-own.false) c.in-ok-add-output.ensures c.extend-from-slice.ensures.items
+returns c = a_line c.args.own c.args.output (vec_items c.args.text.now) (vec_items c.add_output.new.text) (vec_items c.extend_from_slice.new.self) c.extend_from_slice.result
+    (sym c.is_own.ensures ∙ c.if-is_own.false) c.in_ok-add_output.ensures c.extend_from_slice.ensures.items

@@ -6,7 +6,7 @@ use Rattle.box_run.proofs.Joins.{two}
 use Rattle.box_run.proofs.text.add_numbered.Goals as goal
 
 pub returns : goal.returns
-returns c = IfOk-weaker c.add-number.result _ _
-    (λ _ e. two (vec_items c.args.text.now) (vec_items c.extend-from-slice.new.self) (vec_items c.add-number.new.text) c.args.word.now (digits c.args.n)
-    c.in-ok-extend-from-slice.ensures.items e)
-    c.add-number.ensures
+returns c = IfOk-weaker c.add_number.result _ _
+    (λ _ e. two (vec_items c.args.text.now) (vec_items c.extend_from_slice.new.self) (vec_items c.add_number.new.text) c.args.word.now (digits c.args.n)
+    c.in_ok-extend_from_slice.ensures.items e)
+    c.add_number.ensures

@@ -13,4 +13,4 @@ loop-x-init c = refl
 pub loop-x-preserved : goal.loop-x-preserved
 loop-x-preserved c =
     turn (λ n. tell_of c.args.home.now c.args.by c.args.sign (engine n)) c.loop-x.x (log_of c.args.effects.now)
-    (log_of c.loop-x.effects) (log_of c.tell.new.effects) c.loop-x.invariant c.in-ok-tell.ensures
+    (log_of c.loop-x.effects) (log_of c.tell.new.effects) c.loop-x.invariant c.in_ok-tell.ensures

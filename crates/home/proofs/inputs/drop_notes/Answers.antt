@@ -9,7 +9,7 @@ use Rattle.home.proofs.inputs.drop_notes.Goals as goal
 
 pub loop-i-preserved : goal.loop-i-preserved
 loop-i-preserved c =
-    ap (λ (n : Note). set c.loop-i.notes c.loop-i.i n) c.unless-for.ensures ∙
+    ap (λ (n : Note). set c.loop-i.notes c.loop-i.i n) c.unless_for.ensures ∙
     map_over_more (unless_for c.args.section) c.args.notes.now c.loop-i.notes c.loop-i.i (get_or c.loop-i.notes c.loop-i.i note.Nothing) (omega arith) c.loop-i.invariant (get_or_default c.loop-i.notes c.loop-i.i note.Nothing (get_or c.loop-i.notes c.loop-i.i note.Nothing) (omega arith))
 
 pub returns : goal.returns

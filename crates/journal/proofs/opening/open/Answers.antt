@@ -6,29 +6,29 @@ use Rattle.journal.specs.Opening.{Found}
 use Rattle.journal.proofs.Stopping.{not_read, trimmed, whole_left}
 use Rattle.journal.proofs.opening.open.Goals as goal
 
-pub returns-in-default : goal.returns-in-default
-returns-in-default g c =
-    let why : (xs : List ℕ) (n : ℕ) → g.F-as-File.holds c.args.file.now xs n → g.F-as-File.holds c.read-back-answer.new.file xs n × Found c.args.yard xs (Err c.unwrap-err.result) =
+pub returns-in_default : goal.returns-in_default
+returns-in_default g c =
+    let why : (xs : List ℕ) (n : ℕ) → g.F-as-File.holds c.args.file.now xs n → g.F-as-File.holds c.read_back-answer.new.file xs n × Found c.args.yard xs (Err c.unwrap_err.result) =
     λ xs n h.
     let P : Result Replay OpenFault → Type 0 = λ r. Found c.args.yard xs r in
-    let f = c.read-back-answer.ensures.found xs n h in
-    (f.0, subst P c.unwrap-err.ensures f.1)
+    let f = c.read_back-answer.ensures.found xs n h in
+    (f.0, subst P c.unwrap_err.ensures f.1)
     in
     record {
-      reads = λ xs n h. let f = why xs n h in (not_read c.args.yard xs n (g.F-as-File.holds c.read-back-answer.new.file) _ f.1 f.0).0;
-      leaves = λ xs n h. let f = why xs n h in (not_read c.args.yard xs n (g.F-as-File.holds c.read-back-answer.new.file) _ f.1 f.0).1;
+      reads = λ xs n h. let f = why xs n h in (not_read c.args.yard xs n (g.F-as-File.holds c.read_back-answer.new.file) _ f.1 f.0).0;
+      leaves = λ xs n h. let f = why xs n h in (not_read c.args.yard xs n (g.F-as-File.holds c.read_back-answer.new.file) _ f.1 f.0).1;
       settled = tt;
     }
 
-pub returns-in-Ok-cut-back : goal.returns-in-Ok-cut-back
-returns-in-Ok-cut-back g c = record {
+pub returns-in-Ok-cut_back : goal.returns-in-Ok-cut_back
+returns-in-Ok-cut_back g c = record {
   reads = λ xs n h. (_, (c.in-Ok.ensures.found xs n h).1.0);
   leaves = λ xs n h.
       let f = c.in-Ok.ensures.found xs n h in
       let w = whole_left c.args.yard xs _ _ _ f.1.0 f.1.1 in
-      let P : List ℕ → Type 0 = λ l. g.F-as-File.holds c.cut-back.new.file l (length l) in
-      subst P w.0 (c.in-Ok-cut-back.ensures.held xs n f.0 w.1);
-  settled = c.in-Ok-cut-back.ensures.settled;
+      let P : List ℕ → Type 0 = λ l. g.F-as-File.holds c.cut_back.new.file l (length l) in
+      subst P w.0 (c.in-Ok-cut_back.ensures.held xs n f.0 w.1);
+  settled = c.in-Ok-cut_back.ensures.settled;
 }
 
 pub returns-in-Err : goal.returns-in-Err
@@ -37,6 +37,6 @@ returns-in-Err g c = record {
   leaves = λ xs n h.
       let f = c.in-Ok.ensures.found xs n h in
       let w = whole_left c.args.yard xs _ _ _ f.1.0 f.1.1 in
-      trimmed c.args.yard xs n _ _ _ (g.F-as-File.holds c.cut-back.new.file) f.1.0 f.1.1 (c.in-Err.ensures.held xs n f.0 w.1);
+      trimmed c.args.yard xs n _ _ _ (g.F-as-File.holds c.cut_back.new.file) f.1.0 f.1.1 (c.in-Err.ensures.held xs n f.0 w.1);
   settled = tt;
 }

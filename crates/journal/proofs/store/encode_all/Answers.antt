@@ -6,8 +6,8 @@ use Rattle.journal.proofs.store.encode_all.Goals as goal
 
 pub loop-record-preserved : goal.loop-record-preserved
 loop-record-preserved c =
-    encode_more c.args.records.now c.loop-record.record-index _ _ _ _ c.loop-record-test.true c.loop-record.invariant (c.as-slice.ensures ∙ c.encode-record.ensures)
-    c.in-ok-extend-from-slice.ensures.items
+    encode_more c.args.records.now c.loop-record.record-index _ _ _ _ c.loop-record-test.true c.loop-record.invariant (c.as_slice.ensures ∙ c.encode_record.ensures)
+    c.in_ok-extend_from_slice.ensures.items
 
 pub returns : goal.returns
 returns c = c.loop-record.invariant ∙ ap written (take_all c.loop-record.record-index c.args.records.now c.loop-record-test.false)

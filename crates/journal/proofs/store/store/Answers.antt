@@ -4,9 +4,9 @@ use Rattle.messages.specs.Journal.{written}
 use Rattle.journal.proofs.Storing.{no_bytes, nothing_more}
 use Rattle.journal.proofs.store.store.Goals as goal
 
-pub returns-else-not-is-empty : goal.returns-else-not-is-empty
-returns-else-not-is-empty g c =
-    let none : length c.args.records.now ≡ 0 = eqb-true _ 0 (sym c.is-empty.ensures ∙ c.if-not-is-empty.false) in
+pub returns-else-not-is_empty : goal.returns-else-not-is_empty
+returns-else-not-is_empty g c =
+    let none : length c.args.records.now ≡ 0 = eqb-true _ 0 (sym c.is_empty.ensures ∙ c.if-not-is_empty.false) in
     record {
       stored = λ xs h. nothing_more (g.F-as-File.holds c.args.file.now) xs (written c.args.records.now) (no_bytes _ none) h;
       settled = λ s. s;

@@ -8,6 +8,6 @@ use Rattle.messages.proofs.decoder.decode.Goals as goal
 
 pub returns : goal.returns
 returns c =
-    let is : c.ok-or.result ≡ ok_or (message_of c.args.yard c.args.bytes.now) refusal.Malformed
-    = c.ok-or.ensures.value ∙ ap (λ (o : Option Message). ok_or o refusal.Malformed) c.whole.ensures in
-    record { value = is; exact = decided c.args.yard c.args.bytes.now c.ok-or.result (λ i. omega (arith, c.type-inv.bytes i)) is }
+    let is : c.ok_or.result ≡ ok_or (message_of c.args.yard c.args.bytes.now) refusal.Malformed
+    = c.ok_or.ensures.value ∙ ap (λ (o : Option Message). ok_or o refusal.Malformed) c.whole.ensures in
+    record { value = is; exact = decided c.args.yard c.args.bytes.now c.ok_or.result (λ i. omega (arith, c.type_inv.bytes i)) is }

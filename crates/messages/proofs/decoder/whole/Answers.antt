@@ -1,4 +1,4 @@
-use Rattle.std.proofs.Common.{lit≤, rules}
+use Rattle.std.proofs.Common.{lit≤}
 use Rattle.messages.proofs.Dispatch.{kind_at}
 use Rattle.messages.proofs.decoder.whole.Goals as goal
 

@@ -1,4 +1,4 @@
-use Rattle.std.proofs.Common.{sym, ap, ◌∙◌, rules}
+use Rattle.std.proofs.Common.{sym, ap, ◌∙◌}
 use Rattle.messages.specs.Table.{bytes_of}
 use Rattle.messages.proofs.Writing.{answer_bytes, on}
 use Rattle.messages.proofs.encoder.encode_into.Goals as goal
@@ -18,5 +18,5 @@ returns-in-Answer c =
     answer_bytes c.in-Answer.engine c.in-Answer.call c.in-Answer.reply c.in-Answer.holder c.in-Answer.change
     c.byte-in-Answer-2.result c.byte-in-Answer-4.result c.byte-in-Answer-2.ensures c.byte-in-Answer-4.ensures
     (on _ (on _ (on _ (on _ (on _ (on _ (on _ c.empty-in-Answer.ensures.bytes c.byte.ensures.bytes) c.byte-in-Answer.ensures.bytes) c.four.ensures.bytes)
-    c.byte-in-Answer-3.ensures.bytes) c.byte-in-Answer-5.ensures.bytes) c.four-start.ensures.bytes) c.reply-end.ensures)
+    c.byte-in-Answer-3.ensures.bytes) c.byte-in-Answer-5.ensures.bytes) c.four-start.ensures.bytes) c.reply_end.ensures)
     ∙ sym (ap bytes_of c.in-Answer.is)

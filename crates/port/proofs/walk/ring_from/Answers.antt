@@ -14,13 +14,13 @@ returns-in-Out c =
 pub returns-in-Back : goal.returns-in-Back
 returns-in-Back c =
     let is = c.in-Back.ensures ∙ ap (λ (o : Option Holder). after_of o c.args.engine) c.whom.ensures in
-    ap Some c.in-ok-push.ensures.items ∙
+    ap Some c.in_ok-push.ensures.items ∙
     sym (walk_back (whom_of (world_of c.args.world.now)) c.args.engine c.loop-left.left c.loop-left.at (vec_items c.loop-left.ring) (omega arith) is) ∙ c.loop-left.invariant
 
 pub loop-left-preserved : goal.loop-left-preserved
 loop-left-preserved c =
     let is = c.in-On.ensures ∙ ap (λ (o : Option Holder). after_of o c.args.engine) c.whom.ensures in
-    ap (walk (whom_of (world_of c.args.world.now)) c.args.engine (c.loop-left.left - 1) c.in-On.next) c.in-ok-push.ensures.items ∙
+    ap (walk (whom_of (world_of c.args.world.now)) c.args.engine (c.loop-left.left - 1) c.in-On.next) c.in_ok-push.ensures.items ∙
     sym (walk_next (whom_of (world_of c.args.world.now)) c.args.engine c.loop-left.left c.loop-left.at c.in-On.next (vec_items c.loop-left.ring) (omega arith) is) ∙
     c.loop-left.invariant
 

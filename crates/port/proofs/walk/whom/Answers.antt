@@ -18,7 +18,7 @@ returns-in-Some c =
 pub loop-number-preserved : goal.loop-number-preserved
 loop-number-preserved c =
     first_miss (λ b. whom_by c.args.engine.0 (state_at (world_of c.args.world.now) (box_at b))) c.yard-boxes.result.boxes c.loop-number.number c.loop-number-test.true
-    c.in-default.ensures c.loop-number.invariant
+    c.in_default.ensures c.loop-number.invariant
 
 pub returns : goal.returns
 returns c =

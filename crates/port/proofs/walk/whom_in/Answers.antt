@@ -11,7 +11,7 @@ returns-in-Some c =
 
 pub loop-place-preserved : goal.loop-place-preserved
 loop-place-preserved c =
-    first_miss (whom_at (model_of c.args.keeper.now).table c.args.engine.0) 64 c.loop-place.place c.loop-place-test.true c.in-default.ensures c.loop-place.invariant
+    first_miss (whom_at (model_of c.args.keeper.now).table c.args.engine.0) 64 c.loop-place.place c.loop-place-test.true c.in_default.ensures c.loop-place.invariant
 
 pub returns : goal.returns
 returns c = first_none (whom_at (model_of c.args.keeper.now).table c.args.engine.0) 64 c.loop-place.place c.loop-place-test.false c.loop-place.invariant

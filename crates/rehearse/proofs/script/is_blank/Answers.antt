@@ -4,8 +4,8 @@ use Rattle.rehearse.specs.Script.{is_blank, is_space}
 use Rattle.rehearse.proofs.Turns.{all_blank, blank_more, not_blank}
 use Rattle.rehearse.proofs.script.is_blank.Goals as goal
 
-pub returns-then-not-is-space : goal.returns-then-not-is-space
-returns-then-not-is-space c =
+pub returns-then-not-is_space : goal.returns-then-not-is_space
+returns-then-not-is_space c =
     let xs = c.args.line.now in
     let i = c.loop-byte.byte-index in
     let s : is_space (get_or xs i 0) ≡ false = cc in

@@ -16,4 +16,4 @@ loop-e-preserved c =
     turn (λ n. change_for c.args.section c.args.holder c.args.change (engine n)) c.loop-e.e
     (state_of c.args.self.now, log_of c.args.effects.now)
     (state_of c.loop-e.self, log_of c.loop-e.effects)
-    (state_of c.change-for.new.self, log_of c.change-for.new.effects) c.loop-e.invariant c.in-ok-change-for.ensures
+    (state_of c.change_for.new.self, log_of c.change_for.new.effects) c.loop-e.invariant c.in_ok-change_for.ensures

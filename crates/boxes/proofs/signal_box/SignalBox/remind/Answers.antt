@@ -13,4 +13,4 @@ loop-e-init c = refl
 pub loop-e-preserved : goal.loop-e-preserved
 loop-e-preserved c =
     turn (λ n. reminder_for c.args.self.now.home (engine n)) c.loop-e.e (log_of c.args.effects.now) (log_of c.loop-e.effects)
-    (log_of c.remind.new.effects) c.loop-e.invariant c.in-ok-remind.ensures
+    (log_of c.remind.new.effects) c.loop-e.invariant c.in_ok-remind.ensures

@@ -13,4 +13,4 @@ loop-e-init c = refl
 pub loop-e-preserved : goal.loop-e-preserved
 loop-e-preserved c =
     turn (λ n. second_for c.args.self.now.home (engine n)) c.loop-e.e (log_of c.args.effects.now) (log_of c.loop-e.effects)
-    (log_of c.second-for.new.effects) c.loop-e.invariant c.in-ok-second-for.ensures
+    (log_of c.second_for.new.effects) c.loop-e.invariant c.in_ok-second_for.ensures

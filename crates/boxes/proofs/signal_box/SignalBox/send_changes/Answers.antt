@@ -13,4 +13,4 @@ loop-b-init c = refl
 pub loop-b-preserved : goal.loop-b-preserved
 loop-b-preserved c =
     turn (λ n. change_to (state_of c.args.self.now) c.args.section c.args.holder c.args.change n) c.loop-b.b (log_of c.args.effects.now)
-    (log_of c.loop-b.effects) (log_of c.send-change.new.effects) c.loop-b.invariant c.in-ok-send-change.ensures
+    (log_of c.loop-b.effects) (log_of c.send_change.new.effects) c.loop-b.invariant c.in_ok-send_change.ensures

@@ -12,4 +12,4 @@ returns-then-at-len c =
 pub returns : goal.returns
 returns c =
     let there : c.args.at < length (outputs_of c.args.self.now) = omega (arith, c.args.self.now.outputs.ok.0, c.len.ensures, c.if-at-len.false) in
-    rw (drop-cons (outputs_of c.args.self.now) c.args.at c.index.result.now) (c.message-to.ensures ∙ ap (message_to c.args.own) c.index.ensures)
+    rw (drop-cons (outputs_of c.args.self.now) c.args.at c.index.result.now) (c.message_to.ensures ∙ ap (message_to c.args.own) c.index.ensures)

@@ -6,7 +6,7 @@ use Rattle.lines.proofs.line.Buffer.hex.Goals as goal
 pub loop-b-preserved : goal.loop-b-preserved
 loop-b-preserved c = (
   hex_step (bytes_of c.loop-b.out) c.args.message.now _ c.loop-b.b-index _ _ (omega arith) c.loop-b.invariant.0 c.byte.ensures.bytes
-      c.byte-out.ensures.bytes c.hex-digit.ensures c.hex-digit-in-loop-b.ensures,
+      c.byte-out.ensures.bytes c.hex_digit.ensures c.hex_digit-in-loop-b.ensures,
   omega arith,
 )
 

@@ -14,7 +14,7 @@ pub loop-rest-preserved : goal.loop-rest-preserved
 loop-rest-preserved c =
     let xs = c.loop-rest.rest.now in
     let two : 2 ≤ length c.loop-rest.rest.now = search rules in (
-      bytes_step (bytes_of c.loop-rest.out) xs _ c.in-ok-h.h c.in-ok-l.l two c.loop-rest.invariant.0
-          c.in-ok-h.ensures.value c.in-ok-l.ensures.value c.byte-out.ensures.bytes,
+      bytes_step (bytes_of c.loop-rest.out) xs _ c.in_ok-h.h c.in_ok-l.l two c.loop-rest.invariant.0
+          c.in_ok-h.ensures.value c.in_ok-l.ensures.value c.byte-out.ensures.bytes,
       rest_room xs _ _ two c.byte-out.ensures.used c.loop-rest.invariant.1,
     )

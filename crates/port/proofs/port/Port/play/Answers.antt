@@ -8,15 +8,15 @@ use Rattle.port.proofs.port.Port.play.Goals as goal
 pub invariant_of-result : goal.invariant_of-result
 invariant_of-result c = (
   ∥∥₁_map c.args.self.reached
-      (λ r. step_on (world_of c.args.self.world) (world_of c.play.new.self) c.args.step (answer_of c.in-ok-outcome.outcome) r c.in-ok-outcome.ensures),
+      (λ r. step_on (world_of c.args.self.world) (world_of c.play.new.self) c.args.step (answer_of c.in_ok-outcome.outcome) r c.in_ok-outcome.ensures),
   tt,
 )
 
 pub returns : goal.returns
 returns c =
     record {
-      step = c.in-ok-outcome.ensures;
+      step = c.in_ok-outcome.ensures;
       promised =
           ∥∥₁_map c.args.self.reached
-          (λ r. step_promised (world_of c.args.self.world) (world_of c.play.new.self) c.args.step (answer_of c.in-ok-outcome.outcome) r c.in-ok-outcome.ensures);
+          (λ r. step_promised (world_of c.args.self.world) (world_of c.play.new.self) c.args.step (answer_of c.in_ok-outcome.outcome) r c.in_ok-outcome.ensures);
     }

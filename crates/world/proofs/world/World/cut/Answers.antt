@@ -4,10 +4,10 @@ use Rattle.world.specs.World.{carried_cut, world_of}
 use Rattle.world.proofs.OneBox.{with_found, with_none}
 use Rattle.world.proofs.world.World.cut.Goals as goal
 
-pub returns-in-default : goal.returns-in-default
-returns-in-default c = let w = world_of c.args.self.now in with_none w c.args.message (carried_cut w c.args.length) c.in-default.ensures
+pub returns-in_default : goal.returns-in_default
+returns-in_default c = let w = world_of c.args.self.now in with_none w c.args.message (carried_cut w c.args.length) c.in_default.ensures
 
 pub returns : goal.returns
 returns c =
     let w = world_of c.args.self.now in
-    IfOk-weaker c.carry-cut.result _ _ (λ out e. with_found w c.args.message (carried_cut w c.args.length) c.in-Some.envelope _ c.in-Some.ensures e) c.carry-cut.ensures
+    IfOk-weaker c.carry_cut.result _ _ (λ out e. with_found w c.args.message (carried_cut w c.args.length) c.in-Some.envelope _ c.in-Some.ensures e) c.carry_cut.ensures

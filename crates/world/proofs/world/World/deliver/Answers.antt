@@ -4,8 +4,8 @@ use Rattle.world.specs.World.{carried, world_of}
 use Rattle.world.proofs.OneBox.{with_found, with_none}
 use Rattle.world.proofs.world.World.deliver.Goals as goal
 
-pub returns-in-default : goal.returns-in-default
-returns-in-default c = let w = world_of c.args.self.now in with_none w c.args.message (carried w) c.in-default.ensures
+pub returns-in_default : goal.returns-in_default
+returns-in_default c = let w = world_of c.args.self.now in with_none w c.args.message (carried w) c.in_default.ensures
 
 pub returns : goal.returns
 returns c =

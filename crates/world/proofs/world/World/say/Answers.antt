@@ -7,4 +7,4 @@ use Rattle.world.proofs.world.World.say.Goals as goal
 pub returns : goal.returns
 returns c =
     let w = c.args.self.now in
-    spoke w.yard (vec_items w.stations) (vec_items w.sent) _ c.args.from (said_of c.args.said) _ _ c.in-ok-send-all.ensures c.as-slice.ensures (c.len-before.ensures ∙ w.sent.ok.0)
+    spoke w.yard (vec_items w.stations) (vec_items w.sent) _ c.args.from (said_of c.args.said) _ _ c.in_ok-send_all.ensures c.as_slice.ensures (c.len-before.ensures ∙ w.sent.ok.0)
