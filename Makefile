@@ -9,22 +9,19 @@
 N ?= 2000
 
 run:
-	@rt check rehearse > /dev/null || { rt check rehearse; exit 1; }
-	@scripts/play target/bin/rehearse rehearsals/ring.txt
+	@program=$$(scripts/program rehearse) && scripts/play $$program rehearsals/ring.txt
 
 box:
-	@rt check signal_box > /dev/null || { rt check signal_box; exit 1; }
-	@cp target/bin/signal_box box
+	@program=$$(scripts/program signal_box) && cp $$program box
 
 test:
 	@scripts/test
 
 compare:
-	@rt check rehearse > /dev/null || { rt check rehearse; exit 1; }
-	@tests/compare.sh $(N)
+	@scripts/program rehearse > /dev/null && tests/compare.sh $(N)
 
 bench:
 	@scripts/bench
 
 clean:
-	rm -rf target box
+	rm -rf target box crates/*/out

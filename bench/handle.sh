@@ -3,15 +3,15 @@
 set -euo pipefail
 cd "$(dirname "$0")/.."
 mkdir -p target/bench
-rt check turns > target/bench/turns.log 2>&1 || { cat target/bench/turns.log; exit 1; }
+turns=$(scripts/program turns)
 cargo build --quiet --release --offline --manifest-path reference/Cargo.toml --target-dir target/reference
 reference=target/reference/release/reference
 collected() { valgrind --tool=callgrind --callgrind-out-file=/dev/null "$@" 2>&1 > /dev/null | sed -n 's/.*Collected : //p'; }
-proved() { echo "$1 $2" | collected target/bin/turns; }
+proved() { echo "$1 $2" | collected "$turns"; }
 plain() { collected "$reference" bench-handle "$1" "$2"; }
 over=0
 for kind in call repeat which change waits heard second; do
-  came=$(echo "$kind 0" | target/bin/turns)
+  came=$(echo "$kind 0" | "$turns")
   expected=$("$reference" bench-handle "$kind" 1)
   [ "$came" = "$expected" ] || { echo "handle $kind: '$came', the second program says '$expected'" >&2; exit 1; }
   a=$(proved "$kind" 100) b=$(proved "$kind" 1100) c=$(plain "$kind" 100) d=$(plain "$kind" 1100)

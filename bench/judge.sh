@@ -2,9 +2,9 @@
 # What `judge` does for a ring of 64 engines, in instructions, beside a list of one line: the difference is its own work.
 set -euo pipefail
 cd "$(dirname "$0")/.."
-[ -x target/bin/judge ] || rt check judge > /dev/null
+judge=$(scripts/program judge)
 count() {
-  valgrind --tool=callgrind --callgrind-out-file=/dev/null target/bin/judge 2>&1 > /dev/null | sed -n 's/.*Collected : //p'
+  valgrind --tool=callgrind --callgrind-out-file=/dev/null "$judge" 2>&1 > /dev/null | sed -n 's/.*Collected : //p'
 }
 full=$(for e in $(seq 0 63); do echo "$e $(((e + 1) % 64)) $((e + 64)) $((e + 64))"; done | count)
 one=$(echo "0 - 0 0" | count)

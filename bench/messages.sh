@@ -3,8 +3,8 @@
 set -eu
 cd "$(dirname "$0")/.."
 mkdir -p target/bench
-rt staticlib recode > target/bench/staticlib.log 2>&1 || { cat target/bench/staticlib.log; exit 1; }
-rustc --edition 2024 -C opt-level=3 -o target/bench/messages bench/messages.rs -L native=target/staticlib -l static=recode
+(cd crates/recode && rt lib) > target/bench/staticlib.log 2>&1 || { cat target/bench/staticlib.log; exit 1; }
+rustc --edition 2024 -C opt-level=3 -o target/bench/messages bench/messages.rs -L native=crates/recode/out -l static=recode
 target/bench/messages
 instructions() {
     valgrind --tool=callgrind --callgrind-out-file=/dev/null target/bench/messages "$1" 2>&1 | sed -n 's/.*Collected : //p'

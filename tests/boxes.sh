@@ -7,7 +7,8 @@ cd "$(dirname "$0")/.."
 runs=${1:-8} ticks=${2:-2000}
 root=$PWD
 cargo build --quiet --release --offline --manifest-path reference/Cargo.toml --target-dir target/reference
-cp target/bin/signal_box target/bin/box
+mkdir -p target/bin
+cp crates/signal_box/out/signal_box target/bin/box
 box=$root/target/bin/box
 
 target/reference/release/reference compare-box "$box" 200

@@ -8,4 +8,4 @@ scripts=${1:-400}
 cargo_run() { cargo "$@" --quiet --release --offline --manifest-path reference/Cargo.toml --target-dir target/reference; }
 cargo_run build
 out=$(cargo_run test 2>&1) || { printf '%s\n' "$out"; exit 1; }
-target/reference/release/reference compare target/bin/rehearse "$scripts"
+target/reference/release/reference compare crates/rehearse/out/rehearse "$scripts"
