@@ -4,7 +4,7 @@ use Rattle.std.proofs.Common.{◌≡◌, ℕ, suc, ◌+◌, ◌*◌, ◌%◌, �
 use mathlib.Core.List.{Memᴰ}
 use native.Mathlib.Nat.{mul-add-mod_self_right}
 use Rattle.std.proofs.lemmas.Bool.{cases_eq}
-use Rattle.yard.specs.Yard.{by, Section, Mode, none, asking, waiting, freeing, leaving, Engine, Yard, holder, mode, shown, beginning, Unheard, Act, begins, May, after, Run, still, then, WaitsFor}
+use Rattle.yard.specs.Yard.{by, Section, Mode, none, asking, waiting, freeing, leaving, Engine, Yard, mode, shown, beginning, Unheard, Act, begins, May, after, Run, still, then, WaitsFor}
 use Rattle.yard.specs.Found.{Heard, BeginningsOf, no_beginning, a_beginning}
 use Rattle.yard.proofs.Queues.{at_put, put_other}
 use Rattle.yard.proofs.Places.{Placed, About, view_last, waiting≢leaving}
