@@ -1,15 +1,13 @@
 -- Bytes cut anywhere: whole records, and then less than one.
-use Rattle.std.proofs.Common.{◌≡◌, ℕ, zero, suc, ◌+◌, ◌-◌, ◌<◌, ◌≤◌, min, ◌⊎◌, List, [], ◌∷◌, ◌++◌, length, take, drop, Ok, Err, vec_items, Result, Vec, sym, refl, ap, ◌∙◌, subst, inl, inr, append_assoc, append-nil, arith, length-append, length-drop, length-take}
+use Rattle.std.proofs.Common.{◌≡◌, ℕ, zero, suc, ◌+◌, ◌-◌, ◌≤◌, min, List, [], ◌∷◌, ◌++◌, length, take, drop, Ok, Err, vec_items, Result, Vec, sym, ap, ◌∙◌, subst, inl, inr, append_assoc, append-nil, arith, length-append, length-drop, length-take}
 use Rattle.std.proofs.lemmas.List.{take_all, take-append-drop, take-append-le, take_at, take-take}
 use Rattle.std.proofs.lemmas.Bool.{cases_lt}
 use Rattle.std.specs.declared.alloc.Global.{Global}
 use Rattle.messages.specs.declared.message.Record.{Record}
-use Rattle.messages.specs.declared.records.Replay.{Replay}
 use Rattle.messages.specs.declared.yard.Yard.{Yard}
-use Rattle.messages.specs.Journal.{AllIn, Holds, ReadIs, Short, written}
-use Rattle.messages.specs.Range.{RecordIn}
+use Rattle.messages.specs.Journal.{AllIn, Holds, Short, written}
 use Rattle.messages.specs.Table.{record_bytes}
-use Rattle.messages.proofs.Fronts.{cut_is_short, long_not_short, one_list, same_first, some_bytes}
+use Rattle.messages.proofs.Fronts.{cut_is_short, long_not_short, one_list, same_first}
 use Rattle.journal.specs.declared.opening.OpenFault.{OpenFault}
 use Rattle.journal.specs.declared.opening.OpenFault.TheVariants as fault
 use Rattle.journal.specs.Opening.{AppendedReadsBack, Found, Gives, Leaves, OpenedTwice, Reads, Restarted, StillThere}

@@ -34,5 +34,5 @@ first_to own [] = None
 first_to own (o ∷ os) = message_to own o
 
 -- the one at a place of a list
-abbrev pub field_own : BoxNumber → ℕ → List Output → Option Message
-field_own own n os = first_to own (drop n os)
+abbrev pub own_at : BoxNumber → ℕ → List Output → Option Message
+own_at own n os = first_to own (drop n os)

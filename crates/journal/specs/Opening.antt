@@ -3,7 +3,6 @@ use Rattle.std.specs.Prelude.{◌≡◌, ℕ, ◌≤◌, List, ◌++◌, length,
 use Rattle.std.specs.declared.alloc.Global.{Global}
 use Rattle.messages.specs.declared.message.Record.{Record}
 use Rattle.messages.specs.declared.records.Replay.{Replay}
-use Rattle.messages.specs.declared.records.Unread.{Unread}
 use Rattle.messages.specs.declared.records.Unread.TheVariants as unread
 use Rattle.messages.specs.declared.yard.Yard.{Yard}
 use Rattle.messages.specs.Journal.{AllIn, Holds, ReadIs, written}

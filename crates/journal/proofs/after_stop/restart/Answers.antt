@@ -1,4 +1,4 @@
-use Rattle.std.proofs.Common.{◌≡◌, ℕ, ◌+◌, List, length, take, refl, ap, ◌∙◌}
+use Rattle.std.proofs.Common.{ℕ, ◌+◌, length, take, refl, ap, ◌∙◌}
 use Rattle.messages.specs.Journal.{written}
 use Rattle.journal.specs.Memory.{held_by}
 use Rattle.journal.proofs.Stopping.{restarted}

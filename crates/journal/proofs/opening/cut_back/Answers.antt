@@ -8,6 +8,6 @@ returns-in-Ok g c = record {
   held = λ xs n h le.
       let short : min n c.args.whole ≤ c.args.whole = omega arith in
       MatchResult-weaker c.sync.result (c.sync.ensures.held (take c.args.whole xs) (min n c.args.whole) (c.in-Ok.ensures xs n h le)) (λ _ q. q)
-      (λ _ q. remains_front (g.F-as-File.holds c.sync.new.self) xs c.args.whole _ short q);
+      (λ _ q. remains_front (g.F.File.holds c.sync.new.self) xs c.args.whole _ short q);
   settled = c.sync.ensures.settles;
 }

@@ -8,6 +8,6 @@ pub returns-else-not-is_empty : goal.returns-else-not-is_empty
 returns-else-not-is_empty g c =
     let none : length c.args.records.now ≡ 0 = eqb-true _ 0 (sym c.is_empty.ensures ∙ c.if-not-is_empty.false) in
     record {
-      stored = λ xs h. nothing_more (g.F-as-File.holds c.args.file.now) xs (written c.args.records.now) (no_bytes _ none) h;
+      stored = λ xs h. nothing_more (g.F.File.holds c.args.file.now) xs (written c.args.records.now) (no_bytes _ none) h;
       settled = λ s. s;
     }

@@ -1,5 +1,5 @@
 -- What stands at a place is the first of what is left there; past the end nothing is left.
-use Rattle.std.proofs.Common.{◌≡◌, ◌<◌, ◌≤◌, length, drop, sym, refl, ap, ◌∙◌, arith, drop-cons}
+use Rattle.std.proofs.Common.{◌<◌, ◌≤◌, length, refl, ap, ◌∙◌, arith, drop-cons}
 use Rattle.std.proofs.lemmas.List.{drop_all}
 use Rattle.journal.specs.Effect.{message_to, outputs_of}
 use Rattle.journal.proofs.effects.Effects.to_itself.Goals as goal

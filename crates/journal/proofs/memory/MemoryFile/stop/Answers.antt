@@ -1,4 +1,4 @@
-use Rattle.std.proofs.Common.{sym, refl, arith, rules}
+use Rattle.std.proofs.Common.{sym, refl, arith}
 use Rattle.std.proofs.lemmas.List.{take_all}
 use Rattle.journal.proofs.memory.MemoryFile.stop.Goals as goal
 

@@ -1,4 +1,4 @@
-use Rattle.std.proofs.Common.{◌≡◌, ◌≤◌, length, vec_items, ap, ◌∙◌, arith}
+use Rattle.std.proofs.Common.{◌≤◌, length, vec_items, ap, ◌∙◌, arith}
 use Rattle.journal.proofs.Kept.{refused_append}
 use Rattle.journal.proofs.memory.storing.MemoryFileFile.append.Goals as goal
 
