@@ -1,5 +1,5 @@
 -- An answer, a change or a sign either changes nothing, or leaves a state in which it is turned away.
-use Rattle.std.proofs.Common.{◌≡◌, ℕ, ◌<◌, ◌≤◌, Bool, true, false, cond, ◌&&◌, eqb, ltb, ◌⊎◌, Some, None, Ok, Err, Option, Result, sym, refl, ap, ◌∙◌, subst, inl, inr, arith}
+use Rattle.std.proofs.Common.{◌≡◌, ℕ, ◌<◌, Bool, true, false, cond, ◌&&◌, eqb, ltb, ◌⊎◌, Some, None, Ok, Err, Option, Result, sym, refl, ap, ◌∙◌, subst, inl, inr, arith}
 use Rattle.std.proofs.lemmas.Bool.{ltb-true, le-ltb, ne_eqb, and_right, and_left}
 use Rattle.messages.specs.declared.yard.BoxNumber.{BoxNumber}
 use Rattle.messages.specs.declared.yard.Engine.{Engine}
@@ -48,7 +48,6 @@ use Rattle.engine_state.specs.Inputs.{
   heard_waiting,
   sign_at,
 }
-use Rattle.home_laws.specs.Told.{Became}
 use Rattle.home_laws.specs.Again.{Ordered, OrderedKept, Once, SameAgain}
 
 pub ordered_kept : OrderedKept

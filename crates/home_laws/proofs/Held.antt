@@ -1,5 +1,5 @@
 -- A free clears the section's bit; and the lowest holder found is one that holds.
-use Rattle.std.proofs.Common.{◌≡◌, ℕ, zero, suc, ◌<◌, Bool, true, false, cond, not, ◌&&◌, ◌||◌, ltb, leb, length, set, Some, None, Option, sym, refl, ap, ◌∙◌, subst, arith, length-set, get_or-set_same}
+use Rattle.std.proofs.Common.{◌≡◌, ℕ, zero, suc, Bool, true, false, cond, not, ◌||◌, ltb, leb, length, set, Some, None, Option, sym, refl, ap, ◌∙◌, subst, arith, length-set, get_or-set_same}
 use Rattle.std.proofs.lemmas.Bool.{ltb-true, and_parts}
 use Rattle.messages.specs.declared.yard.Engine.{Engine}
 use Rattle.messages.specs.declared.yard.Section.{Section}
@@ -10,15 +10,13 @@ use Rattle.messages.specs.declared.message.Refusal.TheVariants as refusal
 use Rattle.engine_state.specs.declared.places.Places.{Places}
 use Rattle.engine_state.specs.declared.state.Event.{Event}
 use Rattle.engine_state.specs.declared.state.Event.TheVariants as event
-use Rattle.engine_state.specs.declared.state.State.{State}
 use Rattle.engine_state.specs.Places.{fits, same_section, bit, marked, word_of, has_of, with_word, with_of, without_of}
-use Rattle.engine_state.specs.State.{wanted, got_by, got_wanted, freed_by, made}
-use Rattle.engine_state.specs.Calls.{holds_of}
+use Rattle.engine_state.specs.State.{wanted, got_by, got_wanted, freed_by}
 use Rattle.home.specs.declared.home.Home.{Home}
 use Rattle.home.specs.declared.home.Note.TheVariants as note
 use Rattle.home.specs.Home.{is_ours, at}
 use Rattle.home.specs.Queries.{holds_at, engine, or_else, lowest_below, holder_of, note_at}
-use Rattle.home.specs.Inputs.{has_section, with_notes, is_older, noted_for, waits_of}
+use Rattle.home.specs.Inputs.{has_section, with_notes, is_older, noted_for}
 use Rattle.home_laws.specs.Held.{FreedIsNotHeld, ToldOfWhatIsHeld}
 use Rattle.home_laws.proofs.Words.{cleared}
 use lib.Bits.{bit_and, bit_or, bit_xor}

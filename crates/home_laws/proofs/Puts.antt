@@ -1,5 +1,5 @@
 -- Array by array.
-use Rattle.std.proofs.Common.{◌≡◌, ℕ, ◌<◌, length, refl, ◌∙◌, arith, length-set, get_or-set_other, get_or-set_same}
+use Rattle.std.proofs.Common.{◌≡◌, ◌∙◌, arith, length-set, get_or-set_other, get_or-set_same}
 use Rattle.signs.specs.declared.Engine as signs
 use Rattle.signs.proofs.Places.{put_one}
 use Rattle.engine_state.specs.declared.state.Known.{Known}
@@ -7,7 +7,7 @@ use Rattle.engine_state.specs.declared.state.Known.TheVariants as known
 use Rattle.engine_state.specs.declared.state.State.{State}
 use Rattle.engine_state.specs.declared.state.Stored.{Stored}
 use Rattle.engine_state.specs.State.{unread}
-use Rattle.home_laws.specs.Puts.{Sized, PutOne}
+use Rattle.home_laws.specs.Puts.{PutOne}
 
 same_state :
     {a b : Stored} {k l : Known} {g f : signs.Engine} → a ≡ b → k ≡ l → g ≡ f →

@@ -1,5 +1,5 @@
 -- Input by input: what an event tells of its engine, put into the home.
-use Rattle.std.proofs.Common.{◌≡◌, ℕ, Bool, true, false, cond, not, ◌&&◌, ◌||◌, leb, ◌⊎◌, List, set, Some, None, Ok, Err, Option, Result, sym, refl, ap, ◌∙◌, subst, inl, inr}
+use Rattle.std.proofs.Common.{◌≡◌, ℕ, Bool, true, false, cond, not, ◌||◌, leb, List, set, Some, None, Ok, Err, Option, Result, sym, refl, ap, ◌∙◌, subst, inl, inr}
 use lib.Seq.{set-get_or}
 use Rattle.std.proofs.lemmas.Bool.{cond-true}
 use Rattle.messages.specs.declared.yard.Engine.{Engine}
@@ -25,7 +25,7 @@ use Rattle.home.specs.Home.{is_home, is_ours, at, with, if_ours}
 use Rattle.home.specs.Queries.{note_at, holder_of}
 use Rattle.home.specs.Inputs.{has_section, taking, freeing, taken, freed, put_in, at_ours, is_older, with_notes, noted_for}
 use Rattle.home_laws.specs.Told.{Became, Tells}
-use Rattle.home_laws.specs.Steps.{Input, take, free, answer, change, sign, waits, step_of, TurnedAway, TurnedAwayChangesNothing, stored_of, record_of, applied, StoredByRecord}
+use Rattle.home_laws.specs.Steps.{take, free, answer, change, sign, waits, TurnedAway, TurnedAwayChangesNothing, stored_of, record_of, applied, StoredByRecord}
 use Rattle.home_laws.proofs.Telling.{event_tells}
 
 same_table :

@@ -28,30 +28,9 @@ use Rattle.engine_state.specs.declared.state.Mode.TheVariants as mode
 use Rattle.engine_state.specs.declared.state.State.{State}
 use Rattle.engine_state.specs.declared.state.Wait.{Wait}
 use Rattle.engine_state.specs.State.{knowing, next_number}
-use Rattle.engine_state.specs.Calls.{if_pending, call_of_mode, open_of, wait_of, next_call, call_of}
-use Rattle.engine_state.specs.Inputs.{
-  is_engine,
-  begun_with,
-  begin_at,
-  waits_for,
-  refused_by,
-  taken_by,
-  ended_by,
-  answer_to,
-  that_call,
-  awaited,
-  answered,
-  answer_at,
-  passed_to,
-  is_later,
-  change_at,
-  gave_up_by,
-  found_at,
-  listened,
-  heard_waiting,
-  sign_at,
-}
-use Rattle.home_laws.specs.Told.{Became, Tells, EventTells}
+use Rattle.engine_state.specs.Calls.{if_pending, call_of_mode, open_of, wait_of, call_of}
+use Rattle.engine_state.specs.Inputs.{is_engine, begun_with, begin_at, waits_for, refused_by, taken_by, ended_by, answer_to, that_call, awaited, answered, answer_at, passed_to, is_later, change_at, gave_up_by, listened, heard_waiting, sign_at}
+use Rattle.home_laws.specs.Told.{Tells, EventTells}
 
 either : (e : Engine) (x : State) (t : Bool) (p q : State × Event) → Tells e x p → Tells e x q → Tells e x (cond t p q)
 either e x true p q a b = a

@@ -1,7 +1,7 @@
 -- A word as a set of places: what clearing one bit does to that bit.
-use Rattle.std.proofs.Common.{◌≡◌, ℕ, ◌*◌, ◌/◌, ◌%◌, ◌^◌, ◌<◌, Bool, true, false, eqb, ◌⊎◌, sym, refl, ap, ◌∙◌, inl, inr, one-mul, arith}
+use Rattle.std.proofs.Common.{◌≡◌, ℕ, ◌/◌, ◌%◌, ◌^◌, ◌<◌, false, eqb, ◌⊎◌, sym, refl, ap, ◌∙◌, inl, inr, one-mul, arith}
 use lib.Bits.{bit_and, bit_xor}
-use Rattle.std.proofs.lemmas.Nat.{pow_pos, shl-shr, and_shr, xor_shr, and_mod, xor_mod, one_shl}
+use Rattle.std.proofs.lemmas.Nat.{shl-shr, and_shr, xor_shr, and_mod, xor_mod, one_shl}
 use Rattle.std.proofs.lemmas.Bool.{cases_eq}
 use Rattle.engine_state.specs.Places.{bit, marked}
 

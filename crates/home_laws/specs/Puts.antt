@@ -1,5 +1,5 @@
 -- After a change of one engine it reads as put, and every other as it was. Assumes nothing.
-use Rattle.std.specs.Prelude.{◌≡◌, ℕ, ◌<◌, length, ◌≢◌}
+use Rattle.std.specs.Prelude.{◌≡◌, ◌<◌, length, ◌≢◌}
 use Rattle.messages.specs.declared.yard.Engine.{Engine}
 use Rattle.signs.specs.Table as table
 use Rattle.engine_state.specs.declared.state.State.{State}
