@@ -1,8 +1,7 @@
 -- A line that was written is read back: digit by digit, then byte by byte.
-use Rattle.std.proofs.Common.{◌≡◌, ℕ, suc, ◌+◌, ◌*◌, ◌/◌, ◌%◌, ◌<◌, ◌≤◌, Bool, true, false, cond, ◌&&◌, eqb, ltb, leb, List, [], ◌∷◌, ◌++◌, length, get_or, drop, Some, None, Option, sym, refl, ap, ◌∙◌, subst, inl, inr, append-nil, add-one, arith, length-append}
+use Rattle.std.proofs.Common.{◌≡◌, ℕ, suc, ◌+◌, ◌*◌, ◌/◌, ◌%◌, ◌<◌, ◌≤◌, Bool, true, false, eqb, leb, List, [], ◌∷◌, ◌++◌, length, get_or, drop, Some, None, Option, sym, refl, ap, ◌∙◌, subst, inl, inr, append-nil, add-one, arith, length-append}
 use Rattle.std.proofs.lemmas.Bool.Decides.{nat_tests}
 use Rattle.messages.specs.Promises.{Bytes}
-use Rattle.messages.specs.Reading.{and_then}
 use Rattle.lines.proofs.Steps.{decimal_two}
 use Rattle.std.proofs.lemmas.Bool.{and_from, cases_lt, eq-eqb, lt-ltb, le-leb}
 use Rattle.messages.specs.declared.yard.BoxNumber.{BoxNumber}
@@ -11,8 +10,7 @@ use Rattle.messages.specs.Reading.{box_of, engine_of, section_of, unless}
 use Rattle.messages.specs.Range.{EngineIn, SectionIn}
 use Rattle.messages.specs.declared.yard.Engine.{Engine}
 use Rattle.messages.specs.declared.yard.Section.{Section}
-use Rattle.lines.specs.declared.line.Number.{Number}
-use Rattle.lines.specs.Digits.{bytes_in, decimal, digit_of, hex_digit, hex_of, hex_value, next_of, number_of, with_next}
+use Rattle.lines.specs.Digits.{bytes_in, decimal, digit_of, hex_digit, hex_of, hex_value, next_of, number_of}
 use Rattle.lines.specs.Lines.{DriverRead, ReadsBack, free_line, is_at, is_free, is_second, is_take, line_of, message, message_in, message_line, place_of, sent_of, take_line, wish_of, wish_text}
 
 pub digit_back : (n : ℕ) → n < 16 → hex_value (hex_digit n) ≡ Some n

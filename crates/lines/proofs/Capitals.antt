@@ -1,5 +1,5 @@
 -- A capital letter has the value of the small one, so two digits have the value of the two.
-use Rattle.std.proofs.Common.{◌≡◌, ℕ, suc, Bool, leb, List, [], ◌∷◌, length, Option, refl, ap, ◌∙◌, arith}
+use Rattle.std.proofs.Common.{◌≡◌, ℕ, suc, leb, List, [], ◌∷◌, length, Option, refl, ap, ◌∙◌, arith}
 use Rattle.std.proofs.lemmas.Bool.Decides.{nat_tests}
 use Rattle.messages.specs.Reading.{unless}
 use Rattle.lines.specs.Digits.{bytes_in, capital, capitals, hex_value}

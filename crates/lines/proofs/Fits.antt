@@ -1,5 +1,5 @@
 -- The bytes of each kind of message are counted.
-use Rattle.std.proofs.Common.{◌≡◌, ℕ, ◌≤◌, Bool, List, length, Some, ap, arith}
+use Rattle.std.proofs.Common.{◌≤◌, Bool, length, Some, ap, arith}
 use Rattle.std.proofs.lemmas.Bool.{and_from, le-leb}
 use Rattle.messages.specs.declared.message.Message.{Message}
 use Rattle.messages.specs.declared.message.Message.TheVariants as message
