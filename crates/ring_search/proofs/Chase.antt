@@ -2,7 +2,6 @@
 -- Assumes nothing.
 use Rattle.std.proofs.Common.{◌≡◌, ℕ, zero, suc, ◌+◌, ◌-◌, ◌<◌, List, [], ◌∷◌, ◌++◌, Some, None, Option, sym, refl, ap, ◌∙◌, add-one, arith}
 use Rattle.signs.specs.declared.Wait.{Wait}
-use Rattle.ring_search.specs.declared.Next.{Next}
 use Rattle.ring_search.specs.declared.Next.TheVariants.{Out, Back, On}
 use Rattle.ring_search.specs.Search.{Judged, after_of, follow, chase, more, ring_at, rings_below}
 

@@ -1,6 +1,6 @@
 -- The rings that the search gives are all the rings there are, each once: a ring turned to its lowest engine is what the search from that engine gives.
 -- Assumes nothing.
-use Rattle.std.proofs.Common.{◌≡◌, ℕ, zero, suc, ◌+◌, ◌<◌, ◌≤◌, Bool, true, false, cond, ltb, ◌⊎◌, List, [], ◌∷◌, ◌++◌, length, Some, None, Option, sym, refl, ap, ◌∙◌, inl, inr, append-nil, arith}
+use Rattle.std.proofs.Common.{◌≡◌, ℕ, zero, suc, ◌<◌, ◌≤◌, ltb, ◌⊎◌, List, [], ◌∷◌, ◌++◌, length, Some, None, Option, sym, refl, ap, ◌∙◌, inl, inr, append-nil, arith}
 use mathlib.Core.List.{Memᴰ}
 use Rattle.std.proofs.lemmas.Bool.{cases_eq, cases_lt, cond_both, ltb-true}
 use Rattle.signs.specs.declared.Wait.{Wait}
@@ -8,7 +8,7 @@ use Rattle.signs.specs.declared.Wait.TheVariants.{Nobody, For}
 use Rattle.signs.specs.declared.table.Engines.{Engines}
 use Rattle.signs.specs.Table.{engine_at}
 use Rattle.ring_search.specs.Search.{Judged, wait_of, own_of, chase, best_of, judged, ring_at, more, rings_below}
-use Rattle.ring_search.specs.Exactly.{Links, Apart, IsRing, FromLowest, HasHighest, first_of, InOrder, Exactly}
+use Rattle.ring_search.specs.Exactly.{Apart, IsRing, first_of, InOrder, Exactly}
 use Rattle.ring_search.proofs.Lists.{mem_snoc, few, least}
 use Rattle.ring_search.proofs.Turned.{Alike, turn_to, unique, way_apart, way_waits}
 use Rattle.ring_search.proofs.Sound.{complete, RingFrom, ring_from}

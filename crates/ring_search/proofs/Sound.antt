@@ -1,17 +1,15 @@
 -- The search from one engine gives its ring exactly where it is the lowest of one: sixty-four steps are enough, since a ring passes nobody twice.
 -- Assumes nothing.
-use Rattle.std.proofs.Common.{◌≡◌, ℕ, zero, suc, ◌+◌, ◌-◌, ◌<◌, ◌≤◌, Bool, true, false, cond, eqb, ltb, ◌⊎◌, List, [], ◌∷◌, ◌++◌, length, Some, None, Option, sym, refl, ap, ◌∙◌, inl, inr, append_assoc, arith}
+use Rattle.std.proofs.Common.{◌≡◌, ℕ, zero, suc, ◌-◌, ◌<◌, ◌≤◌, cond, eqb, ltb, ◌⊎◌, List, [], ◌∷◌, ◌++◌, length, Some, None, Option, sym, refl, ap, ◌∙◌, inl, inr, append_assoc, arith}
 use mathlib.Core.List.{Memᴰ}
-use Rattle.std.proofs.lemmas.Bool.{cases_eq, cases_lt, cond_both, cond-true, cond-false, eq-eqb, ne_eqb, le-ltb, lt-ltb, eqb-true, eqb-false, ltb-true, ltb-false}
+use Rattle.std.proofs.lemmas.Bool.{cases_lt, cond_both, cond-true, cond-false, eq-eqb, ne_eqb, le-ltb, eqb-true, eqb-false, ltb-true, ltb-false}
 use Rattle.signs.specs.declared.Wait.{Wait}
 use Rattle.signs.specs.declared.Wait.TheVariants.{Nobody, For}
 use Rattle.ring_search.specs.declared.Next.{Next}
 use Rattle.ring_search.specs.declared.Next.TheVariants.{Out, Back, On}
-use Rattle.ring_search.specs.Search.{Judged, after_of, follow, chase, higher_of, best_of, judged, ring_at, more, rings_below}
-use Rattle.ring_search.specs.Exactly.{Links, Apart, IsRing, FromLowest, HasHighest}
-use Rattle.ring_search.proofs.Chase.{chase_on, chase_back, chase_next}
-use Rattle.ring_search.proofs.Lists.{mem_snoc, few}
-use Rattle.ring_search.proofs.Turned.{way_apart, way_waits}
+use Rattle.ring_search.specs.Search.{Judged, after_of, follow, chase, best_of, judged, ring_at}
+use Rattle.ring_search.specs.Exactly.{Links, HasHighest}
+use Rattle.ring_search.proofs.Chase.{chase_back, chase_next}
 
 -- where the search goes on, by the wait
 after_back : (v : Wait) (f : ℕ) → after_of v f ≡ Back → v ≡ For f

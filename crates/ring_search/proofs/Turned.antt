@@ -1,10 +1,10 @@
 -- A ring turned round to any of its engines is a ring of the same engines, and from one engine there is one ring only.
 -- Assumes nothing.
-use Rattle.std.proofs.Common.{◌≡◌, ℕ, zero, suc, ◌+◌, ◌<◌, ◌≤◌, ◌⊎◌, List, [], ◌∷◌, ◌++◌, length, sym, refl, ap, ◌∙◌, inl, inr, append_assoc, arith}
+use Rattle.std.proofs.Common.{◌≡◌, ℕ, ◌<◌, List, [], ◌∷◌, ◌++◌, length, refl, ap, inl, inr, append_assoc, arith}
 use mathlib.Core.List.Memᴰ
 use mathlib.Core.List.{Memᴰ}
 use Rattle.signs.specs.declared.Wait.{Wait}
-use Rattle.signs.specs.declared.Wait.TheVariants.{Nobody, For}
+use Rattle.signs.specs.declared.Wait.TheVariants.{For}
 use Rattle.ring_search.specs.Exactly.{Links, Apart, IsRing}
 use Rattle.ring_search.proofs.Lists.{mem_snoc, apart_snoc}
 

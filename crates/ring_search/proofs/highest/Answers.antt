@@ -1,8 +1,8 @@
 -- One engine more is compared with the best so far.
 -- Assumes nothing.
-use Rattle.std.proofs.Common.{◌≡◌, ℕ, ◌+◌, ◌<◌, List, [], ◌∷◌, length, get_or, drop, sym, refl, ap, ◌∙◌, arith, rules}
+use Rattle.std.proofs.Common.{ℕ, ◌+◌, drop, sym, ap, ◌∙◌}
 use Rattle.std.proofs.lemmas.List.{at_drop_more, at_drop_all}
-use Rattle.ring_search.specs.Search.{own_of, higher_of, best_of}
+use Rattle.ring_search.specs.Search.{own_of, best_of}
 use Rattle.ring_search.proofs.highest.Goals as goal
 
 pub loop-e-preserved : goal.loop-e-preserved

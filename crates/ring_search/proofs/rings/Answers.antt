@@ -1,8 +1,8 @@
 -- What the search gives is exactly the rings.
 -- Assumes nothing.
-use Rattle.std.proofs.Common.{◌≡◌, List, map, vec_items}
+use Rattle.std.proofs.Common.{◌≡◌, map, vec_items}
 use Rattle.std.proofs.lemmas.Result.{IfOk-weaker}
-use Rattle.ring_search.specs.Search.{Judged, wait_of, own_of, rings_below, model}
+use Rattle.ring_search.specs.Search.{wait_of, own_of, rings_below, model}
 use Rattle.ring_search.specs.Exactly.{Exactly}
 use Rattle.ring_search.proofs.Exact.{exactly_the_rings}
 use Rattle.ring_search.proofs.rings.Goals as goal

@@ -1,6 +1,6 @@
 -- One engine more: the ring of which it is the lowest, if there is one, comes last.
 -- Assumes nothing.
-use Rattle.std.proofs.Common.{◌≡◌, map, sym, refl, ap, ◌∙◌}
+use Rattle.std.proofs.Common.{map, sym, ap, ◌∙◌}
 use Rattle.ring_search.specs.Search.{wait_of, own_of, model}
 use Rattle.ring_search.proofs.Chase.{rings_step, rings_none}
 use Rattle.ring_search.proofs.search.Goals as goal
@@ -11,5 +11,5 @@ loop-e-init c =
 
 pub loop-e-preserved : goal.loop-e-preserved
 loop-e-preserved c =
-    rings_step (wait_of c.args.table.now) (own_of c.args.table.now) c.loop-e.e c.in-ok-add.ensures c.loop-e.invariant
-    c.in-ok-ring-at.ensures
+    rings_step (wait_of c.args.table.now) (own_of c.args.table.now) c.loop-e.e c.in_ok-add.ensures c.loop-e.invariant
+    c.in_ok-ring_at.ensures
