@@ -1,12 +1,11 @@
 -- A call that is written is read as it was meant: digit by digit, and then by computing each verb's line.
-use Rattle.std.proofs.Common.{◌≡◌, ℕ, ◌+◌, ◌-◌, ◌*◌, ◌/◌, ◌%◌, ◌<◌, ◌≤◌, true, false, cond, ◌&&◌, eqb, leb, ◌⊎◌, List, [], ◌∷◌, ◌++◌, Some, None, codes, decimal, Option, sym, refl, ap, ◌∙◌, inl, inr, arith}
+use Rattle.std.proofs.Common.{◌≡◌, ℕ, ◌+◌, ◌-◌, ◌*◌, ◌/◌, ◌%◌, ◌<◌, ◌≤◌, false, eqb, [], ◌∷◌, ◌++◌, Some, codes, decimal, refl, ap, ◌∙◌, inl, inr, arith}
 use Rattle.std.proofs.lemmas.Fmt.{decimal_digit, decimal_step}
 use Rattle.std.proofs.lemmas.Bool.{cases_lt, le-leb, ne_eqb}
 use Rattle.one_box.specs.declared.script.Verb.{Verb}
 use Rattle.one_box.specs.declared.script.Verb.TheVariants.{Take, Free, GiveUp}
-use Rattle.one_box.specs.declared.script.Call.{Call}
 use Rattle.one_box.specs.declared.script.Line.TheVariants.{Called}
-use Rattle.one_box.specs.Script.{ReadsBack, call_by, digit_of, line_of, number_of, two_digits, verb_text}
+use Rattle.one_box.specs.Script.{ReadsBack, digit_of, line_of, number_of, verb_text}
 
 digit_back : (d : ℕ) → d < 10 → digit_of (48 + d) ≡ Some d
 digit_back d h =

@@ -1,5 +1,5 @@
 -- What a rehearsal does with a call, and the text of its answers.
-use Rattle.std.specs.Prelude.{ℕ, cond, List, [], ◌∷◌, ◌++◌, Ok, Err, codes, decimal, Result, nat_lt}
+use Rattle.std.specs.Prelude.{ℕ, cond, List, ◌++◌, Ok, Err, codes, decimal, Result, nat_lt}
 use Rattle.std.specs.List.{flat_map}
 use Rattle.sections.specs.declared.Holder.{Holder}
 use Rattle.sections.specs.declared.Holder.TheVariants.{Free, Engine}

@@ -91,7 +91,7 @@ fn read_call(verb: Verb, text: &[u8]) -> Line
 fn is_show(line: &[u8]) -> bool
     ensures { result ≡ bytes_eq line.now (codes "show") }
 {
-    line == b"show"
+    line == b"show".as_slice()
 }
 
 fn command(line: &[u8]) -> Line

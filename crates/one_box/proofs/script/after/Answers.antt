@@ -8,4 +8,4 @@ pub returns : goal.returns
 returns c =
     let text = c.args.text.now in
     let word = c.args.word.now in
-    after_is word text c.strip-prefix.result (strip_prefix_is Decides-eqb text word c.strip-prefix.result c.strip-prefix.ensures.cases)
+    after_is word text c.strip_prefix.result (strip_prefix_is Decides-eqb text word c.strip_prefix.result c.strip_prefix.ensures.cases)
