@@ -1,5 +1,5 @@
 -- A set of sections, box by box a word with a bit for each place. Assumes nothing.
-use Rattle.std.specs.Prelude.{ℕ, ◌*◌, ◌/◌, ◌%◌, ◌^◌, Bool, true, false, cond, ◌&&◌, List, [], ◌∷◌, set, replicate, ◌==◌, bit_and, bit_or, bit_xor, nat_lt, slice_index, slice_set}
+use Rattle.std.specs.Prelude.{ℕ, ◌*◌, ◌/◌, ◌%◌, ◌^◌, Bool, true, false, cond, ◌&&◌, List, [], ◌∷◌, replicate, ◌==◌, bit_and, bit_or, bit_xor, nat_lt, slice_index, slice_set}
 use Rattle.messages.specs.declared.yard.Section.{Section}
 use Rattle.engine_state.specs.declared.places.Places.{Places}
 

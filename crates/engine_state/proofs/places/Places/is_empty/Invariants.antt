@@ -1,5 +1,5 @@
 -- What is left gives the answer.
-use Rattle.std.proofs.Common.{◌≡◌, length, drop}
+use Rattle.std.proofs.Common.{◌≡◌, drop}
 use Rattle.engine_state.specs.Places.{all_zero}
 use Rattle.engine_state.proofs.places.Places.is_empty.Given as goal
 
