@@ -1,14 +1,14 @@
 -- What a box's rows owe: made from a sound table, kept where one row is replaced, and at hand as a sound table again.
-use Rattle.std.proofs.Common.{◌≡◌, ℕ, zero, suc, ◌/◌, ◌%◌, ◌^◌, ◌<◌, ◌≤◌, Bool, true, false, not, ◌&&◌, ◌||◌, eqb, ltb, ◌⊎◌, List, [], ◌∷◌, length, get_or, set, replicate, None, Ok, Err, Result, sym, refl, ap, ◌∙◌, subst, inl, inr, arith, length-set}
+use Rattle.std.proofs.Common.{◌≡◌, ℕ, ◌^◌, ◌<◌, true, false, not, ◌&&◌, eqb, ltb, List, [], ◌∷◌, length, get_or, set, replicate, None, Ok, Err, Result, sym, refl, ap, ◌∙◌, subst, inl, inr, arith, length-set}
 use native.Mathlib.Nat.{zero-div}
-use Rattle.std.proofs.lemmas.List.{get_or-set_same, get_or-set_other, get_or-replicate, get_or_past, length-map, length-take-le}
+use Rattle.std.proofs.lemmas.List.{get_or-replicate, get_or_past, length-map, length-take-le}
 use Rattle.std.proofs.lemmas.Bool.{and_from, cases_lt, eqb-true, lt-ltb, or_cases}
 use Rattle.sections.specs.declared.Holder.TheVariants.{Free}
 use Rattle.sections.specs.declared.Done.{Done}
 use Rattle.sections.specs.declared.Refusal.{Refusal}
 use Rattle.sections.specs.declared.Sections.{Sections}
 use Rattle.sections.specs.declared.row.Row.{Row}
-use Rattle.sections.specs.Table.{Section, Table, empty, free_outcome, free_section, give_up_outcome, give_up_section, idle, is_in, put, refusal_of, place_at, take_outcome, take_section, unless, waits}
+use Rattle.sections.specs.Table.{free_outcome, free_section, give_up_outcome, give_up_section, is_in, put, refusal_of, place_at, take_outcome, take_section, unless, waits}
 use Rattle.sections.specs.Sound.{HoldersKnown, InOrder, NobodyForFree, NobodyItsOwn, NobodyTwice, OneQueue, WaitersKnown, once}
 use Rattle.sections.specs.Layout.{AllFit, AllMatch, Fits, Matches, Placed, engines_of, holds, idle_row, section_of, table_of_rows}
 use Rattle.sections.specs.Model.{table_of}
@@ -19,29 +19,31 @@ use Rattle.sections.proofs.Lists.{at_most}
 -- the ghost fields of the struct, in their order
 abbrev pub Owed : List Row → Type 0
 Owed rows =
-    (length rows ≡ 64) × (AllMatch rows × (AllFit rows × (NobodyTwice (table_of_rows rows) × (NobodyItsOwn (table_of_rows rows) × (NobodyForFree (table_of_rows rows) ×
-    (OneQueue (table_of_rows rows) × (WaitersKnown (table_of_rows rows) × (HoldersKnown (table_of_rows rows) × Unit {0}))))))))
+    record {
+      whole : length rows ≡ 64;
+      matched : AllMatch rows;
+      fitting : AllFit rows;
+      twice : NobodyTwice (table_of_rows rows);
+      others : NobodyItsOwn (table_of_rows rows);
+      had : NobodyForFree (table_of_rows rows);
+      apart : OneQueue (table_of_rows rows);
+      waiters : WaitersKnown (table_of_rows rows);
+      holders : HoldersKnown (table_of_rows rows);
+    }
 
 pub owed : (rows : List Row) → length rows ≡ 64 → AllMatch rows → AllFit rows → Sound (table_of_rows rows) → Owed rows
-owed rows long matched fitting sound = (
-  long,
-  (
-    matched,
-    (
-      fitting,
-      (
-        λ p. (sound.order p).twice,
-        (
-          λ e p. (sound.order p).others e,
-          (
-            λ e p. (sound.order p).had e,
-            (sound.apart, (λ e p. (sound.order p).waiters e, (λ e p. (sound.order p).holders e, tt))),
-          ),
-        ),
-      ),
-    ),
-  ),
-)
+owed rows long matched fitting sound =
+    record {
+      whole = long;
+      matched = matched;
+      fitting = fitting;
+      twice = λ p. (sound.order p).twice;
+      others = λ e p. (sound.order p).others e;
+      had = λ e p. (sound.order p).had e;
+      apart = sound.apart;
+      waiters = λ e p. (sound.order p).waiters e;
+      holders = λ e p. (sound.order p).holders e;
+    }
 
 -- the table of a box is sound
 pub sound_of : (x : Sections) → Sound (table_of x)

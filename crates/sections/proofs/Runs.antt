@@ -1,10 +1,9 @@
 -- Over every list of calls: the table stays sound, and each promise is a part of that, or of one call's fairness.
-use Rattle.std.proofs.Common.{◌≡◌, ℕ, ◌⊎◌, List, [], ◌∷◌, refl, inl, inr}
+use Rattle.std.proofs.Common.{◌≡◌, ℕ, List, [], ◌∷◌, refl, inl, inr}
 use Rattle.std.proofs.lemmas.Bool.{cases_eq}
 use Rattle.sections.specs.declared.Holder.{Holder}
 use Rattle.sections.specs.declared.Holder.TheVariants.{Free, Engine}
 use Rattle.sections.specs.Table.{Table, free_outcome, give_up_outcome, holder_at, take_outcome}
-use Rattle.sections.specs.Sound.{WaitsAt}
 use Rattle.sections.specs.Promise.{Call, AlwaysFirstServed, FirstServed, InTurn, AlwaysNobodyItsOwn, NobodyOvertakes, AlwaysNobodyTwice, OneHolder, AlwaysOneQueue, AlwaysSomebodyHas, after, frees, gives_up, next, takes}
 use Rattle.sections.proofs.Sound.{Sound, empty_sound, free_keeps, give_up_keeps, same_engine, settled, take_keeps}
 use Rattle.sections.proofs.Turns.{first_served, free_fair, give_up_fair, in_turn, take_fair}

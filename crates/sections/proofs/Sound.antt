@@ -1,13 +1,10 @@
 -- Every call keeps the queues in order: one lemma on putting a section, and one on what each call makes of a section.
-use Rattle.std.proofs.Common.{◌≡◌, ℕ, zero, suc, ◌+◌, ◌<◌, ◌≤◌, Bool, true, false, cond, not, ◌&&◌, ◌||◌, eqb, ltb, ◌⊎◌, List, [], ◌∷◌, ◌++◌, length, replicate, Ok, Err, Result, sym, refl, ap, ◌∙◌, inl, inr, arith}
-use Rattle.std.proofs.lemmas.Bool.Decides.{nat_tests}
+use Rattle.std.proofs.Common.{◌≡◌, ℕ, ◌+◌, ◌<◌, Bool, true, false, not, eqb, ◌⊎◌, List, [], ◌∷◌, ◌++◌, replicate, Ok, Err, sym, refl, ap, ◌∙◌, inl, inr, arith}
 use Rattle.std.proofs.lemmas.List.{get_or-replicate, get_or_past}
-use Rattle.std.proofs.lemmas.Bool.{both_ways, cond_both, cases_eq, cases_lt, eqb-false, eqb-true, eq-eqb, ltb-true, and_parts, or_cases, or_left, or_right, not-true as bool-not-true}
+use Rattle.std.proofs.lemmas.Bool.{both_ways, cond_both, cases_lt, eqb-false, eqb-true, eq-eqb, and_parts, or_cases, or_left, or_right, not-true as bool-not-true}
 use Rattle.sections.specs.declared.Holder.{Holder}
 use Rattle.sections.specs.declared.Holder.TheVariants.{Free, Engine}
-use Rattle.sections.specs.declared.Done.{Done}
-use Rattle.sections.specs.declared.Refusal.{Refusal}
-use Rattle.sections.specs.Table.{Outcome, Section, Table, changeable, empty, first_of, free_by, free_outcome, free_section, give_up_outcome, idle, is_in, known, pass_on, put, queue_at, rest_of, place_at, settle, take_by, take_outcome, take_section, waits, without}
+use Rattle.sections.specs.Table.{Outcome, Section, Table, changeable, empty, first_of, free_by, free_outcome, free_section, give_up_outcome, idle, is_in, known, pass_on, put, queue_at, rest_of, place_at, settle, take_by, take_outcome, take_section, without}
 use Rattle.sections.specs.Sound.{FewNew, InOrder, Keeps, OneQueue, WaitsAt, once}
 use Rattle.sections.proofs.Lists.{is_in_push, is_in_without, once_push, once_without}
 use Rattle.sections.proofs.Tables.{put_read, unless_either, waits_nowhere}

@@ -1,11 +1,11 @@
 -- Reading a table: the new section where one was put, the old one elsewhere; and who waits nowhere.
-use Rattle.std.proofs.Common.{◌≡◌, ℕ, zero, suc, ◌<◌, ◌≤◌, Bool, true, false, ◌||◌, ltb, ◌⊎◌, List, [], ◌∷◌, length, get_or, set, Some, None, Ok, Err, Option, sym, refl, ap, ◌∙◌, inl, inr, arith}
+use Rattle.std.proofs.Common.{◌≡◌, ℕ, zero, suc, ◌<◌, ◌≤◌, false, ◌⊎◌, List, [], ◌∷◌, length, get_or, set, Some, None, Ok, Err, Option, refl, ap, ◌∙◌, inl, inr, arith}
 use Rattle.sections.specs.declared.Refusal.{Refusal}
 use Rattle.std.proofs.lemmas.Bool.Decides.{nat_tests}
 use Rattle.std.proofs.lemmas.List.{get_or-set_same, get_or-set_other, length-set, set_past, map-set, get_or_past}
 use Rattle.std.proofs.lemmas.Bool.{cases_eq, cases_lt, or_parts, or_from, both_ways, cases_Bool, ltb-true}
 use Rattle.sections.specs.declared.row.Row.{Row}
-use Rattle.sections.specs.Table.{Outcome, Section, Table, idle, is_in, put, queue_at, refusal_of, place_at, settle, unless, waits}
+use Rattle.sections.specs.Table.{Outcome, Section, Table, idle, is_in, put, refusal_of, place_at, settle, unless, waits}
 use Rattle.sections.specs.Sound.{WaitsAt}
 use Rattle.sections.specs.Layout.{idle_row, section_of, table_of_rows}
 

@@ -1,11 +1,10 @@
 -- Nobody overtakes, and the first is served: shown of one section for each call, and carried to the table.
-use Rattle.std.proofs.Common.{◌≡◌, ℕ, ◌+◌, Bool, true, false, cond, not, ◌&&◌, ◌||◌, eqb, ltb, ◌⊎◌, List, [], ◌∷◌, ◌++◌, Ok, Err, Result, sym, refl, ap, ◌∙◌, inl, inr, arith}
+use Rattle.std.proofs.Common.{◌≡◌, ℕ, true, false, ◌&&◌, ◌||◌, eqb, List, [], ◌∷◌, ◌++◌, Ok, Err, sym, refl, ap, ◌∙◌, inl, inr, arith}
 use Rattle.std.proofs.lemmas.Bool.Decides.{nat_tests}
 use Rattle.std.proofs.lemmas.Bool.{both_ways, cond_both, ne_eqb, or_right}
 use Rattle.sections.specs.declared.Holder.{Holder}
 use Rattle.sections.specs.declared.Holder.TheVariants.{Free, Engine}
-use Rattle.sections.specs.Table.{Outcome, Section, Table, changeable, first_of, free_by, free_outcome, free_section, give_up_outcome, is_in, known, pass_on, put, queue_at, rest_of, place_at, settle, take_by, take_outcome, take_section, waits, without}
-use Rattle.sections.specs.Sound.{WaitsAt}
+use Rattle.sections.specs.Table.{Outcome, Section, Table, changeable, first_of, free_by, free_outcome, free_section, give_up_outcome, is_in, known, put, queue_at, rest_of, place_at, settle, take_by, take_outcome, take_section, waits, without}
 use Rattle.sections.specs.Promise.{FirstServed, InTurn, ahead}
 use Rattle.sections.proofs.Lists.{is_in_push, is_in_without}
 use Rattle.sections.proofs.Sound.{not_both, not-true, same_engine}

@@ -1,9 +1,6 @@
 -- What is promised of a box's sections, after every list of calls from the empty table on.
-use Rattle.std.specs.Prelude.{◌≡◌, ℕ, Bool, true, false, ◌&&◌, ◌||◌, List, [], ◌∷◌, Result, ◌==◌, ◌≢◌}
-use Rattle.sections.specs.declared.Holder.{Holder}
-use Rattle.sections.specs.declared.Holder.TheVariants.{Free, Engine}
-use Rattle.sections.specs.declared.Done.{Done}
-use Rattle.sections.specs.declared.Refusal.{Refusal}
+use Rattle.std.specs.Prelude.{◌≡◌, ℕ, Bool, true, false, ◌&&◌, ◌||◌, List, [], ◌∷◌, ◌==◌, ◌≢◌}
+use Rattle.sections.specs.declared.Holder.TheVariants.{Engine}
 use Rattle.sections.specs.Table.{Table, empty, free_of, give_up_of, holder_at, is_in, queue_at, take_of}
 use Rattle.sections.specs.Sound.{WaitsAt, once}
 

@@ -1,6 +1,5 @@
 -- What always holds of a box's sections: every queue is in order, and nobody stands in two of them.
-use Rattle.std.specs.Prelude.{◌≡◌, ℕ, ◌<◌, Bool, true, false, not, ◌&&◌, ◌⊎◌, List, [], ◌∷◌, Ok, Err, ◌≢◌}
-use Rattle.sections.specs.declared.Holder.{Holder}
+use Rattle.std.specs.Prelude.{◌≡◌, ℕ, ◌<◌, Bool, true, not, ◌&&◌, ◌⊎◌, List, [], ◌∷◌, Ok, Err, ◌≢◌}
 use Rattle.sections.specs.declared.Holder.TheVariants.{Free, Engine}
 use Rattle.sections.specs.Table.{Outcome, Section, Table, holder_at, is_in, queue_at}
 

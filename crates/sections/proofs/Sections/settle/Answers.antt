@@ -1,5 +1,5 @@
 -- the row is stored, or nothing
-use Rattle.std.proofs.Common.{◌≡◌, Ok, Err, sym, ap, ◌∙◌, subst}
+use Rattle.std.proofs.Common.{Ok, sym, ap, ◌∙◌, subst}
 use Rattle.sections.specs.Layout.{Storable, outcome_of, section_of}
 use Rattle.sections.specs.Model.{table_of}
 use Rattle.sections.specs.Sound.{Keeps}
@@ -13,8 +13,8 @@ pub invariant_of-self : goal.invariant_of-self
 invariant_of-self c =
     let x = c.args.self.now in
     let p = c.args.place in
-    let r = c.in-ok-row.row in
-    let h = c.in-ok-row.was in
+    let r = c.in_ok-row.row in
+    let h = c.in_ok-row.was in
     let s = subst Storable h c.requires.storable in
     let k = subst (λ o. Keeps (table_of x) p (outcome_of o)) h c.requires.keeps in
     owed_set x p r s.1 s.0 (sound_put (table_of x) p (section_of r) (sound_of x) k.0 k.1)

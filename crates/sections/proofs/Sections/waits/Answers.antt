@@ -1,5 +1,5 @@
 -- in the rows behind this one there is as much to find as in all
-use Rattle.std.proofs.Common.{◌≡◌, ◌+◌, Bool, ◌||◌, drop, sym, ap, ◌∙◌, arith}
+use Rattle.std.proofs.Common.{◌+◌, ◌||◌, drop, sym, ap, ◌∙◌, arith}
 use Rattle.std.proofs.lemmas.List.{at_drop_more, at_drop_all}
 use Rattle.sections.specs.Layout.{idle_row, table_of_rows}
 use Rattle.sections.specs.Model.{table_of}

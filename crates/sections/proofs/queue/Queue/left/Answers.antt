@@ -1,5 +1,5 @@
 -- the front of the array without the engine, and its bit cleared in the set
-use Rattle.std.proofs.Common.{◌≡◌, ◌-◌, not, ◌&&◌, eqb, length, take, drop, sym, ap, ◌∙◌, arith, length-append}
+use Rattle.std.proofs.Common.{◌≡◌, ◌-◌, not, ◌&&◌, eqb, take, drop, sym, ap, ◌∙◌, arith, length-append}
 use Rattle.std.proofs.lemmas.List.{take-append-le}
 use Rattle.sections.specs.Layout.{engines_of, holds}
 use Rattle.sections.specs.Table.{is_in, without}
