@@ -1,9 +1,9 @@
 -- Two numbers that leave the same remainder are a multiple of the divisor apart: one at most a divisor above the sign shown is the lowest.
 -- Assumes nothing.
-use Rattle.std.proofs.Common.{◌≡◌, ℕ, ◌+◌, ◌-◌, ◌*◌, ◌/◌, ◌%◌, ◌<◌, ◌≤◌, Bool, true, false, cond, ltb, ◌⊎◌, sym, refl, ap, ◌∙◌, inl, inr, mul-le-mul_right, add-mul, one-mul, div-add-mod', arith}
+use Rattle.std.proofs.Common.{◌≡◌, ℕ, ◌+◌, ◌*◌, ◌/◌, ◌%◌, ◌<◌, ◌≤◌, ap, ◌∙◌, inl, inr, mul-le-mul_right, add-mul, one-mul, div-add-mod', arith}
 use Rattle.std.proofs.lemmas.Nat.{mod-mul-add, mod_below}
 use Rattle.std.proofs.lemmas.Bool.{cases_lt, lt-ltb, le-ltb}
-use Rattle.signs.specs.Signs.{ahead_of, next_own}
+use Rattle.signs.specs.Signs.{next_own}
 use Rattle.signs.specs.Lowest.{Lowest}
 
 multiple :

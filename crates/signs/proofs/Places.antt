@@ -1,12 +1,12 @@
 -- Reading at the changed place gives the new value, and elsewhere the old one, array by array.
 -- Assumes nothing.
-use Rattle.std.proofs.Common.{◌≡◌, ℕ, zero, suc, ◌+◌, ◌<◌, ◌≢◌, List, [], ◌∷◌, length, get_or, set, replicate, sym, refl, ◌∙◌, arith, length-set, get_or-set_other, get_or-set_same}
+use Rattle.std.proofs.Common.{◌≡◌, ℕ, refl, ◌∙◌, arith, length-set, get_or-set_other, get_or-set_same}
 use Rattle.std.proofs.lemmas.List.FromFn.{get_or-range_with_len}
 use Rattle.std.proofs.lemmas.List.{get_or-replicate}
 use Rattle.signs.specs.declared.Wait.{Wait}
 use Rattle.signs.specs.declared.Wait.TheVariants.{Nobody}
 use Rattle.signs.specs.declared.Engine.{Engine}
-use Rattle.signs.specs.Table.{FreshSigns, PutOne, Sized, engine_at, with, fresh_of}
+use Rattle.signs.specs.Table.{FreshSigns, PutOne}
 
 same_engine :
     {w v : Wait} {c d s t o p : ℕ} → w ≡ v → c ≡ d → s ≡ t → o ≡ p →

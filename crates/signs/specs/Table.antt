@@ -1,8 +1,7 @@
 -- The table of a yard's engines, read and changed at one engine.
 -- Assumes nothing.
-use Rattle.std.specs.Prelude.{◌≡◌, ℕ, zero, suc, ◌<◌, cond, List, [], ◌∷◌, length, replicate, Ok, Err, Result, ◌≢◌, nat_lt, slice_index, slice_index_or, slice_set}
+use Rattle.std.specs.Prelude.{◌≡◌, ℕ, ◌<◌, cond, length, replicate, Ok, Err, Result, ◌≢◌, nat_lt, slice_index, slice_index_or, slice_set}
 use Rattle.std.specs.List.{range_with_len}
-use Rattle.signs.specs.declared.Wait.{Wait}
 use Rattle.signs.specs.declared.Wait.TheVariants.{Nobody}
 use Rattle.signs.specs.declared.Engine.{Engine}
 use Rattle.signs.specs.declared.table.Engines.{Engines}
