@@ -1,12 +1,11 @@
 -- A state that is put back where it stands changes nothing.
-use Rattle.std.proofs.Common.{◌≡◌, ℕ, Bool, true, false, cond, None, Option, sym, refl, ap, ◌∙◌}
+use Rattle.std.proofs.Common.{◌≡◌, ℕ, Bool, true, false, cond, None, sym, ap, ◌∙◌}
 use lib.Seq.{set-get_or}
 use Rattle.engine_state.specs.Calls.{wait_of}
 use Rattle.engine_state.specs.Inputs.{change_at, is_later, passed_to}
 use Rattle.engine_state.specs.declared.state.Event.{Event}
 use Rattle.engine_state.specs.declared.state.Event.TheVariants as event
 use Rattle.engine_state.specs.declared.state.Known.TheVariants as known
-use Rattle.engine_state.specs.declared.state.Wait.{Wait}
 use Rattle.messages.specs.declared.message.Holder.{Holder}
 use Rattle.messages.specs.declared.message.Refusal.TheVariants as refusal
 use Rattle.messages.specs.declared.yard.Engine.{Engine}

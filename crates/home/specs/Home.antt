@@ -12,7 +12,6 @@ use Rattle.messages.specs.declared.message.Refusal.TheVariants as refusal
 use Rattle.signs.specs.Table as table
 use Rattle.engine_state.specs.declared.state.Known.TheVariants as known
 use Rattle.engine_state.specs.declared.state.State.{State}
-use Rattle.home.specs.declared.home.Note.{Note}
 use Rattle.home.specs.declared.home.Note.TheVariants as note
 use Rattle.home.specs.declared.home.Home.{Home}
 use Rattle.engine_state.specs.State.{blank, unread, made, begun, heard}

@@ -1,10 +1,9 @@
 -- What is asked of a home, by one of its engines. Assumes nothing.
-use Rattle.std.specs.Prelude.{ℕ, zero, suc, ◌+◌, Bool, true, false, cond, ◌&&◌, Some, None, Option, ◌==◌, nat_lt, slice_index, slice_index_or}
+use Rattle.std.specs.Prelude.{ℕ, zero, suc, ◌+◌, Bool, false, cond, ◌&&◌, Some, None, Option, ◌==◌, nat_lt, slice_index, slice_index_or}
 use Rattle.messages.specs.declared.yard.Engine.{Engine}
 use Rattle.messages.specs.declared.yard.Section.{Section}
 use Rattle.messages.specs.declared.message.Call.{Call}
 use Rattle.signs.specs.declared.Engine as signs
-use Rattle.engine_state.specs.declared.state.State.{State}
 use Rattle.engine_state.specs.declared.state.Wait.{Wait}
 use Rattle.engine_state.specs.Calls.{open_of, wait_of, holds_of, giving_back}
 use Rattle.home.specs.declared.home.Home.{Home}

@@ -1,5 +1,5 @@
 -- The first that holds it is the lowest; if none did, none does.
-use Rattle.std.proofs.Common.{◌≡◌, ℕ, Bool, true, false, sym, ap, ◌∙◌, add-one, arith}
+use Rattle.std.proofs.Common.{ℕ, false, sym, ap, ◌∙◌, add-one, arith}
 use Rattle.messages.specs.declared.yard.Engine.{Engine}
 use Rattle.home.specs.Queries.{holds_at, lowest_below}
 use Rattle.home.proofs.Lowest.{none_yet, lowest_at, lowest_found}
