@@ -1,5 +1,5 @@
 -- A step for each number below n: one number more is one step more.
-use Rattle.std.proofs.Common.{◌≡◌, ℕ, suc, ◌+◌, sym, refl, ap, ◌∙◌, add-one}
+use Rattle.std.proofs.Common.{◌≡◌, ℕ, ◌+◌, sym, refl, ap, ◌∙◌, add-one}
 use Rattle.boxes.specs.Log.{each}
 
 pub each_more : {A : Type 0} (f : ℕ → A → A) (n : ℕ) (x : A) → each f (n + 1) x ≡ f n (each f n x)

@@ -1,5 +1,5 @@
 -- THE BOX: what each input makes of it, and what it gives to be recorded, sent and printed. Assumes nothing.
-use Rattle.std.specs.Prelude.{ℕ, Bool, true, false, cond, ◌&&◌, List, Some, None, Ok, Err, Option, Result, ◌==◌}
+use Rattle.std.specs.Prelude.{ℕ, cond, List, Some, None, Ok, Err, Option, Result, ◌==◌}
 use Rattle.std.specs.Option.{ok_or}
 use Rattle.messages.specs.declared.yard.BoxNumber.{BoxNumber}
 use Rattle.messages.specs.declared.yard.Engine.{Engine}
@@ -27,7 +27,7 @@ use Rattle.boxes.specs.declared.signal_box.Input.TheVariants as input
 use Rattle.boxes.specs.Log.{Log, said, sent, each}
 use Rattle.boxes.specs.Emit.{home_of, emit_of, tells_of}
 use Rattle.boxes.specs.Model.{State, with_home}
-use Rattle.boxes.specs.Keeping.{refused, for_us, called_at, which_at}
+use Rattle.boxes.specs.Keeping.{refused, called_at, which_at}
 
 -- what came of an input at one engine
 abbrev pub happened : State → Home × Event → Log → State × Log

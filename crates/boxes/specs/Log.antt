@@ -1,12 +1,11 @@
 -- What inputs have given so far: the records to be stored, and what may be said once they are. Assumes nothing.
-use Rattle.std.specs.Prelude.{◌≡◌, ℕ, zero, suc, List, [], ◌∷◌, ◌++◌, Result}
+use Rattle.std.specs.Prelude.{ℕ, zero, suc, List, [], ◌∷◌, ◌++◌}
 use Rattle.messages.specs.declared.yard.BoxNumber.{BoxNumber}
 use Rattle.messages.specs.declared.message.Message.{Message}
 use Rattle.messages.specs.declared.message.Record.{Record}
 use Rattle.journal.specs.declared.output.Output.{Output}
 use Rattle.journal.specs.declared.output.Output.TheVariants as output
 use Rattle.journal.specs.declared.effects.Effects.{Effects}
-use Rattle.journal.specs.declared.fault.Fault.{Fault}
 use Rattle.journal.specs.Effect.{records_of, outputs_of}
 
 pub record Log : Type 0 where

@@ -5,7 +5,6 @@ use Rattle.keeper.specs.Model as keeper
 use Rattle.home.specs.declared.home.Home.{Home}
 use Rattle.home.specs.Home.{fresh_home}
 use Rattle.boxes.specs.declared.signal_box.SignalBox.{SignalBox}
-use Rattle.boxes.specs.Log.{Log}
 
 pub record State : Type 0 where
   pub keeper : keeper.State
