@@ -10,5 +10,5 @@ returns c =
     let y = c.args.yard in
     let b = c.args.number.0 in
     let t = table_of c.args.self.now.sections in
-    let e = c.is-told.ensures in
+    let e = c.is_told.ensures in
     record { answer = e; concerns = subst (Concerns y b t c.args.place) (sym e) (concerns y b t c.args.place) }

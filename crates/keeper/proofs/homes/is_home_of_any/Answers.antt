@@ -10,16 +10,16 @@ loop-engine-preserved c =
     let b = c.args.number.0 in
     let es = c.args.queue.now in
     let i = c.loop-engine.engine-index in
-    let miss : eqb (home_of y (get_or es i 0)) b ≡ false = sym c.if-is-home.ensures in
+    let miss : eqb (home_of y (get_or es i 0)) b ≡ false = sym c.if-is_home.ensures in
     sym (at_drop_more (home_of_any y b) es i 0 (omega arith) ∙ ap (λ t. t || home_of_any y b (drop (i + 1) es)) miss) ∙ c.loop-engine.invariant
 
-pub returns-then-is-home : goal.returns-then-is-home
-returns-then-is-home c =
+pub returns-then-is_home : goal.returns-then-is_home
+returns-then-is_home c =
     let y = c.args.yard in
     let b = c.args.number.0 in
     let es = c.args.queue.now in
     let i = c.loop-engine.engine-index in
-    let hit : eqb (home_of y (get_or es i 0)) b ≡ true = sym c.if-is-home.ensures in
+    let hit : eqb (home_of y (get_or es i 0)) b ≡ true = sym c.if-is_home.ensures in
     sym (at_drop_more (home_of_any y b) es i 0 (omega arith) ∙ ap (λ t. t || home_of_any y b (drop (i + 1) es)) hit) ∙ c.loop-engine.invariant
 
 pub returns : goal.returns
