@@ -21,12 +21,11 @@ use Rattle.messages.specs.Range.{CallIn, EngineIn, HolderIn, MessageIn, RecordIn
 use Rattle.sections.proofs.Tables.{set_read}
 use Rattle.signs.specs.declared.Engine as signs
 use Rattle.signs.specs.declared.Refusal as signRefusal
-use Rattle.signs.specs.declared.Refusal.TheVariants.{Stale}
 use Rattle.signs.specs.declared.Heard as sound
 use Rattle.signs.specs.declared.Heard.TheVariants.{TellOn, Found, PassedOver}
 use Rattle.signs.specs.declared.Wait as whom
 use Rattle.signs.specs.declared.Wait.TheVariants.{Nobody, For}
-use Rattle.signs.specs.Signs.{begin_of, begun, has_room, listen_of, next_own, out_of_range, waits_by}
+use Rattle.signs.specs.Signs.{begin_of, has_room, listen_of, next_own, out_of_range, waits_by}
 use Rattle.engine_state.specs.declared.places.Places.{Places}
 use Rattle.engine_state.specs.declared.state.Event.{Event}
 use Rattle.engine_state.specs.declared.state.Event.TheVariants as event

@@ -33,7 +33,7 @@ use Rattle.home.specs.declared.home.Note.{Note}
 use Rattle.home.specs.declared.home.Note.TheVariants as note
 use Rattle.home.specs.Home.{at, fresh_home, is_home, is_ours, made_of, with}
 use Rattle.home.specs.Queries.{engine, holder_of, holds_at, note_at, open_at, wait_at}
-use Rattle.home.specs.Inputs.{answer_of, at_ours, change_of, free_of, freed, freeing, has_section, is_older, noted, noted_for, sign_of, take_of, taken, taking, unless_for, waits_of, with_notes}
+use Rattle.home.specs.Inputs.{answer_of, at_ours, change_of, free_of, freed, freeing, has_section, is_older, noted_for, sign_of, take_of, taken, taking, unless_for, waits_of, with_notes}
 use Rattle.home_laws.specs.Puts as puts
 use Rattle.home_laws.specs.Told.{Tells}
 use Rattle.home_laws.proofs.Puts.{put_in_one}

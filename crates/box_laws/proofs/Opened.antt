@@ -3,7 +3,6 @@ use Rattle.std.proofs.Common.{◌≡◌, ℕ, Bool, eqb, List, [], ◌∷◌, le
 use Rattle.std.proofs.lemmas.List.{set-get_or}
 use Rattle.std.proofs.lemmas.Bool.{cond_both}
 use Rattle.messages.specs.declared.yard.BoxNumber.{BoxNumber}
-use Rattle.messages.specs.declared.yard.Engine.{Engine}
 use Rattle.messages.specs.declared.yard.Yard.{Yard}
 use Rattle.messages.specs.declared.message.Record.{Record}
 use Rattle.messages.specs.declared.message.Record.TheVariants as journal
@@ -15,7 +14,6 @@ use Rattle.engine_state.specs.declared.state.Known.TheVariants as known
 use Rattle.engine_state.specs.declared.state.State as engines
 use Rattle.engine_state.specs.declared.state.Stored.{Stored}
 use Rattle.engine_state.specs.State.{unread}
-use Rattle.keeper.specs.Model as keeper
 use Rattle.home.specs.declared.home.Home.{Home}
 use Rattle.home.specs.declared.home.Note.{Note}
 use Rattle.home.specs.declared.home.Note.TheVariants as note

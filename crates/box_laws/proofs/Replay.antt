@@ -36,7 +36,6 @@ use Rattle.keeper.specs.Calls.{call_of}
 use Rattle.keeper.specs.Homes.{told_of}
 use Rattle.keeper.specs.Promise.{Followed}
 use Rattle.keeper.specs.Words.{holder_of}
-use Rattle.keeper.specs.declared.Answer.{Answer}
 use Rattle.keeper.specs.declared.Verdict.{Verdict}
 use Rattle.keeper.specs.declared.Verdict.TheVariants as verdict
 use Rattle.keeper.proofs.OneCall.{followed}

@@ -24,7 +24,6 @@ use Rattle.signs.specs.Table as table
 use Rattle.engine_state.specs.State.{unread}
 use Rattle.engine_state.specs.declared.state.Event.{Event}
 use Rattle.engine_state.specs.declared.state.State as engines
-use Rattle.keeper.specs.Model as keeper
 use Rattle.keeper.specs.Calls.{call_of}
 use Rattle.keeper.specs.Homes.{told_of}
 use Rattle.keeper.specs.Range.{AnswerIn, VerdictIn}
