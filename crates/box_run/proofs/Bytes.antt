@@ -1,5 +1,5 @@
 -- How many bytes the first records take, and that records stored after some that are all there leave those there.
-use Rattle.std.proofs.Common.{◌≡◌, ℕ, zero, suc, ◌+◌, ◌<◌, ◌≤◌, true, false, cond, List, [], ◌∷◌, ◌++◌, length, get_or, take, drop, Ok, Err, Result, sym, refl, ap, ◌∙◌, subst, append-nil, arith, length-append, MatchResult}
+use Rattle.std.proofs.Common.{◌≡◌, ℕ, zero, suc, ◌+◌, ◌<◌, ◌≤◌, true, false, cond, List, [], ◌∷◌, ◌++◌, length, get_or, take, Ok, Err, Result, refl, ap, ◌∙◌, subst, append-nil, arith, length-append, MatchResult}
 use Rattle.std.proofs.lemmas.List.{take_more, take_all}
 use Rattle.messages.specs.declared.message.Record.{Record}
 use Rattle.messages.specs.Journal.{written}

@@ -1,5 +1,5 @@
 -- A box comes up as the records stand for, and every way in which it doesn't leaves what was synced.
-use Rattle.std.proofs.Common.{◌≡◌, ℕ, ◌⊎◌, List, ◌++◌, length, take, Ok, Err, Result, sym, refl, ap, ◌∙◌, subst, inl, inr}
+use Rattle.std.proofs.Common.{◌≡◌, ℕ, List, length, Err, sym, ◌∙◌, subst, inl, inr}
 use Rattle.messages.specs.declared.message.Record.{Record}
 use Rattle.messages.specs.declared.yard.BoxNumber.{BoxNumber}
 use Rattle.messages.specs.declared.yard.Yard.{Yard}
@@ -8,8 +8,6 @@ use Rattle.journal.specs.declared.opening.OpenFault.{OpenFault}
 use Rattle.journal.specs.declared.opening.OpenFault.TheVariants as fault
 use Rattle.journal.specs.Opening.{Found, StillThere}
 use Rattle.journal.proofs.Stopping.{reaches, untouched, whole_left}
-use Rattle.box_run.specs.declared.coming_up.CameUp.{CameUp}
-use Rattle.box_run.specs.declared.coming_up.Standing.{Standing}
 use Rattle.box_run.specs.Opening.{ComesUp, ReadUp, StandsFor}
 
 -- a record that the box couldn't have written is damage

@@ -1,5 +1,5 @@
 -- What the arguments of the program ask for. Assumes nothing.
-use Rattle.std.specs.Prelude.{ℕ, ◌+◌, ◌-◌, ◌*◌, cond, ◌&&◌, List, [], ◌∷◌, length, Some, None, Option, nat_le}
+use Rattle.std.specs.Prelude.{ℕ, ◌+◌, ◌-◌, ◌*◌, ◌&&◌, List, [], ◌∷◌, Some, None, Option, nat_le}
 use Rattle.messages.specs.Reading.{and_then, unless}
 use Rattle.box_run.specs.declared.which.Which.{Which}
 

@@ -1,10 +1,10 @@
 -- One line more at each turn.
-use Rattle.std.proofs.Common.{◌≡◌, ℕ, ◌+◌, ◌<◌, ◌≤◌, List, [], ◌∷◌, length, take, drop, sym, refl, ap, ◌∙◌, subst, arith, length-drop}
+use Rattle.std.proofs.Common.{◌≡◌, ℕ, ◌+◌, List, ◌∷◌, length, take, drop, sym, refl, ap, ◌∙◌, subst, arith, length-drop}
 use Rattle.std.proofs.lemmas.Bool.{eqb-false, eqb-true}
-use Rattle.boxes.specs.Log.{Log, log_of}
-use Rattle.boxes.specs.Model.{State, state_of}
+use Rattle.boxes.specs.Log.{log_of}
+use Rattle.boxes.specs.Model.{state_of}
 use Rattle.box_run.specs.Lines.{lines_in}
-use Rattle.box_run.specs.Serve.{FedEach, Fed}
+use Rattle.box_run.specs.Serve.{FedEach}
 use Rattle.box_run.proofs.Split.{first_line, no_lines}
 use Rattle.box_run.proofs.feeding.feed_all.Goals as goal
 

@@ -1,5 +1,5 @@
 -- One output more at each turn; past the last nothing is left to do.
-use Rattle.std.proofs.Common.{◌≡◌, ◌+◌, ◌<◌, ◌≤◌, length, ap, ◌∙◌, subst, arith}
+use Rattle.std.proofs.Common.{◌+◌, ◌<◌, ◌≤◌, length, ap, ◌∙◌, subst, arith}
 use Rattle.messages.specs.declared.yard.BoxNumber.{BoxNumber}
 use Rattle.journal.specs.Effect.{outputs_of}
 use Rattle.boxes.specs.Log.{Log, log_of}

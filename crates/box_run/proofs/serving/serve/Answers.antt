@@ -5,6 +5,6 @@ use Rattle.box_run.proofs.serving.serve.Goals as goal
 
 pub returns-in-Err : goal.returns-in-Err
 returns-in-Err g c = record {
-  serves = λ xs h. ([], unwritten (g.row.F-File.holds c.args.file.now) xs [] (length xs) (omega arith) h);
+  serves = λ xs h. ([], unwritten (g.F.File.holds c.args.file.now) xs [] (length xs) (omega arith) h);
   settled = λ _. tt;
 }

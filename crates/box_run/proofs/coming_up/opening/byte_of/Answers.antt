@@ -1,5 +1,5 @@
 -- One record more at each turn, and never more bytes than all records have.
-use Rattle.std.proofs.Common.{◌≡◌, ◌+◌, ◌≤◌, length, take, sym, refl, ap, ◌∙◌, arith}
+use Rattle.std.proofs.Common.{◌+◌, ◌≤◌, length, take, sym, ap, ◌∙◌, arith}
 use mir.Facts.{Fits-bits}
 use Rattle.std.proofs.lemmas.List.{take_all}
 use Rattle.messages.specs.Journal.{written}

@@ -1,6 +1,6 @@
 -- What was read is what the file holds, and the box is what that stands for.
 use Rattle.std.proofs.Common.{vec_items}
-use Rattle.box_run.proofs.Upward.{not_found, not_standing}
+use Rattle.box_run.proofs.Upward.{not_standing}
 use Rattle.box_run.proofs.coming_up.opening.read_up.Goals as goal
 
 pub returns-in-Ok : goal.returns-in-Ok
