@@ -1,5 +1,5 @@
 -- A change heard engine by engine is a run of the model, and tells nobody to give back.
-use Rattle.std.proofs.Common.{◌≡◌, ℕ, zero, suc, ◌+◌, ◌%◌, ◌<◌, ◌≤◌, Bool, true, false, cond, ◌&&◌, eqb, Some, None, Ok, Err, Option, Result, sym, refl, ap, ◌∙◌, subst}
+use Rattle.std.proofs.Common.{◌≡◌, ℕ, zero, suc, ◌<◌, ◌≤◌, Bool, true, false, cond, eqb, Ok, Err, Result}
 use Rattle.messages.specs.declared.yard.BoxNumber.{BoxNumber}
 use Rattle.messages.specs.declared.yard.Engine.{Engine}
 use Rattle.messages.specs.declared.yard.Section.{Section}
@@ -19,8 +19,8 @@ use Rattle.engine_state.specs.State.{knowing}
 use Rattle.engine_state.specs.Calls.{wait_of}
 use Rattle.engine_state.specs.Inputs.{change_at, passed_to, is_later, begin_at, begun_with}
 use Rattle.journal.specs.declared.output.Output.TheVariants as output
-use Rattle.boxes.specs.Log.{Log, none, said, each}
-use Rattle.boxes.specs.Model.{State as Box, with_home}
+use Rattle.boxes.specs.Log.{Log, none, each}
+use Rattle.boxes.specs.Model.{State as Box}
 use Rattle.boxes.specs.Keeping.{refused}
 use Rattle.boxes.specs.Handle.{happened, change_for, changed_at}
 use Rattle.home.specs.declared.home.Home.{Home}

@@ -1,5 +1,5 @@
 -- What a home's event gives to be said is true.
-use Rattle.std.proofs.Common.{◌≡◌, ℕ, zero, suc, ◌%◌, ◌<◌, Bool, true, false, cond, List, [], ◌∷◌, ◌++◌, sym, refl, ap, ◌∙◌}
+use Rattle.std.proofs.Common.{◌≡◌, ℕ, ◌<◌, true}
 use Rattle.messages.specs.declared.yard.Engine.{Engine}
 use Rattle.messages.specs.declared.yard.Section.{Section}
 use Rattle.messages.specs.declared.yard.Yard as sizes
@@ -8,8 +8,8 @@ use Rattle.messages.specs.declared.message.Record.TheVariants as journal
 use Rattle.engine_state.specs.declared.state.Event.{Event}
 use Rattle.engine_state.specs.declared.state.Event.TheVariants as event
 use Rattle.journal.specs.declared.output.Output.TheVariants as output
-use Rattle.boxes.specs.Log.{Log, recorded, said, sent}
-use Rattle.boxes.specs.Emit.{home_of, emit_of, called_of}
+use Rattle.boxes.specs.Log.{Log, recorded, said}
+use Rattle.boxes.specs.Emit.{emit_of}
 use Rattle.boxes.specs.Model.{State as Box}
 use Rattle.home.specs.Queries.{holds_at}
 use Rattle.yard.specs.Yard as model

@@ -1,30 +1,22 @@
 -- Each input of a box is a run of the model, from what is known of one step of a home and of a keeper.
-use Rattle.std.proofs.Common.{◌≡◌, ℕ, zero, suc, ◌+◌, ◌%◌, ◌<◌, ◌≤◌, Bool, true, false, cond, ◌&&◌, eqb, ◌⊎◌, List, [], ◌∷◌, ◌++◌, sym, refl, ap, ◌∙◌, subst, inl, inr, arith}
+use Rattle.std.proofs.Common.{◌≡◌, ℕ, ◌<◌, Bool, true, false, cond, eqb, ◌⊎◌, List, [], ◌++◌, sym, refl, ap, ◌∙◌, subst, inl, inr}
 use mathlib.Core.Path.{fun_ext}
-use Rattle.std.proofs.lemmas.Bool.{eq-eqb, ne_eqb, eqb-true, eqb-false, cases_eq}
-use Rattle.messages.specs.declared.yard.BoxNumber.{BoxNumber}
-use Rattle.messages.specs.declared.yard.Engine.{Engine}
-use Rattle.messages.specs.declared.yard.Section.{Section}
+use Rattle.std.proofs.lemmas.Bool.{eq-eqb, ne_eqb, cases_eq}
 use Rattle.messages.specs.declared.yard.Yard as sizes
-use Rattle.messages.specs.declared.message.Message.{Message}
-use Rattle.messages.specs.declared.message.Message.TheVariants as message
 use Rattle.engine_state.specs.declared.state.Event.{Event}
 use Rattle.engine_state.specs.declared.state.Event.TheVariants as event
 use Rattle.engine_state.specs.declared.state.State.{State}
-use Rattle.journal.specs.declared.output.Output.{Output}
-use Rattle.journal.specs.declared.output.Output.TheVariants as output
-use Rattle.boxes.specs.Log.{Log, none, recorded, said, sent, each}
-use Rattle.boxes.specs.Emit.{home_of, emit_of}
-use Rattle.boxes.specs.Model.{State as Box, with_keeper, with_home}
+use Rattle.boxes.specs.Log.{Log, none}
+use Rattle.boxes.specs.Emit.{emit_of}
+use Rattle.boxes.specs.Model.{State as Box, with_home}
 use Rattle.boxes.specs.Handle.{happened}
-use Rattle.home.specs.Queries.{engine, holds_at}
+use Rattle.home.specs.Queries.{holds_at}
 use Rattle.home_laws.specs.Steps as homes
 use Rattle.yard.specs.Yard as model
 use Rattle.yard.specs.Yard.{put, by, Reach, Run, still}
 use Rattle.yard.proofs.Sound.{run_on, reach_on}
 use Rattle.yard.proofs.Views.{Moved, unmoved}
-use Rattle.refinement.specs.Placed.{number_of}
-use Rattle.refinement.proofs.View.{Boxes, As, EventTrue, HomeStep, MayCome, Sized, True, ToABox, state_in}
+use Rattle.refinement.proofs.View.{Boxes, As, EventTrue, HomeStep, MayCome, Sized, True, state_in}
 use Rattle.refinement.proofs.Telling.{AllTrue, Going, Stays, all_stay, put_here}
 use Rattle.refinement.proofs.Emitting.{HeldIsHad, emit_going}
 use Rattle.refinement.proofs.Sizing.{home_sized}

@@ -1,19 +1,16 @@
 -- The steps of homes and keepers, put together: every input of a box is a run of the model.
-use Rattle.std.proofs.Common.{◌≡◌, ℕ, ◌%◌, ◌<◌, Bool, true, false, cond, sym, refl, ap, ◌∙◌, subst, arith}
+use Rattle.std.proofs.Common.{◌≡◌, ℕ, ◌<◌, Bool, true, false, cond, refl, subst, arith}
 use Rattle.messages.specs.declared.yard.BoxNumber.{BoxNumber}
 use Rattle.messages.specs.declared.yard.Engine.{Engine}
 use Rattle.messages.specs.declared.yard.Section.{Section}
 use Rattle.messages.specs.declared.yard.Yard as sizes
 use Rattle.messages.specs.declared.message.Message.{Message}
 use Rattle.messages.specs.Range.{MessageIn}
-use Rattle.engine_state.specs.declared.state.State.{State}
 use Rattle.engine_state.specs.Calls.{holds_of}
 use Rattle.boxes.specs.Log.{none}
-use Rattle.boxes.specs.Model.{State as Box}
 use Rattle.boxes.specs.Handle.{handle_of, received_of}
 use Rattle.boxes.specs.declared.signal_box.Input.TheVariants as input
 use Rattle.home.specs.Home.{is_ours, at}
-use Rattle.home.specs.Queries.{engine, holds_at}
 use Rattle.home_laws.specs.Steps as homes
 use Rattle.yard.specs.Yard as model
 use Rattle.yard.specs.Yard.{by, Reach}

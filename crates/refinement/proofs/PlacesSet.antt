@@ -1,5 +1,5 @@
 -- A word's bits one by one: a section put into a set is in it, one taken out is not, and every other is in it as before.
-use Rattle.std.proofs.Common.{◌≡◌, ℕ, suc, ◌+◌, ◌-◌, ◌/◌, ◌%◌, ◌^◌, ◌<◌, Bool, true, false, cond, eqb, ltb, ◌⊎◌, length, get_or, set, sym, refl, ap, ◌∙◌, subst, inl, inr, one-mul, arith, length-set, get_or-set_other, get_or-set_same}
+use Rattle.std.proofs.Common.{◌≡◌, ℕ, suc, ◌+◌, ◌-◌, ◌/◌, ◌%◌, ◌^◌, ◌<◌, Bool, true, false, cond, eqb, ltb, ◌⊎◌, length, get_or, sym, refl, ap, ◌∙◌, subst, inl, inr, one-mul, arith, length-set, get_or-set_other, get_or-set_same}
 use native.Mathlib.Nat.{div-eq_of_lt}
 use lib.Bits.{bit_and, bit_or, bit_xor}
 use Rattle.std.proofs.lemmas.Nat.{pow-add, pow_below, shl-shr, and_shr, or_shr, xor_shr, and_mod, or_mod, xor_mod, one_shl}

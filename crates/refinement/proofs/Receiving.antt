@@ -1,5 +1,5 @@
 -- Each message that a box receives, if it is true, is a run of the model.
-use Rattle.std.proofs.Common.{◌≡◌, ℕ, zero, suc, ◌+◌, ◌*◌, ◌%◌, ◌<◌, ◌≤◌, Bool, true, false, cond, ◌&&◌, eqb, ◌⊎◌, List, [], ◌∷◌, ◌++◌, sym, refl, ap, ◌∙◌, subst, inl, inr, le_refl}
+use Rattle.std.proofs.Common.{◌≡◌, ℕ, zero, suc, ◌+◌, ◌*◌, ◌<◌, ◌≤◌, Bool, true, false, cond, eqb, sym, refl, ap, ◌∙◌, subst, inr, le_refl}
 use Rattle.std.proofs.lemmas.Bool.{eqb-true, and_parts}
 use Rattle.messages.specs.declared.yard.BoxNumber.{BoxNumber}
 use Rattle.messages.specs.declared.yard.Engine.{Engine}
@@ -16,18 +16,16 @@ use Rattle.messages.specs.Range.{CallIn, MessageIn, SectionIn}
 use Rattle.sections.specs.declared.Holder.{Holder as SectionHolder}
 use Rattle.sections.specs.declared.Holder.TheVariants as has
 use Rattle.sections.specs.Table.{change_number_at, holder_at, place_at}
-use Rattle.keeper.specs.declared.Answer.{Answer}
 use Rattle.keeper.specs.declared.Verdict.{Verdict}
 use Rattle.keeper.specs.declared.Verdict.TheVariants as verdict
 use Rattle.keeper.specs.Calls.{call_of}
 use Rattle.keeper.specs.Homes.{told_of}
 use Rattle.keeper.specs.Words.{holder_of}
-use Rattle.journal.specs.declared.output.Output.{Output}
 use Rattle.journal.specs.declared.output.Output.TheVariants as output
-use Rattle.boxes.specs.Log.{Log, none, recorded, said, sent, each}
+use Rattle.boxes.specs.Log.{Log, none, recorded, sent, each}
 use Rattle.boxes.specs.Emit.{home_of}
-use Rattle.boxes.specs.Model.{State as Box, with_keeper, with_home}
-use Rattle.boxes.specs.Keeping.{refused, for_us, called_at, which_at, ruled, ruled_log, answered, changes_of, change_to}
+use Rattle.boxes.specs.Model.{State as Box, with_keeper}
+use Rattle.boxes.specs.Keeping.{refused, for_us, called_at, which_at, ruled, ruled_log, answered, change_to}
 use Rattle.boxes.specs.Handle.{happened, received_of, wait_at_box, wait_from_home, wait_from_keeper, wait_here, wait_sent}
 use Rattle.home.specs.Home.{is_home}
 use Rattle.home.specs.Inputs.{waits_of}
@@ -36,8 +34,8 @@ use Rattle.yard.specs.Yard as model
 use Rattle.yard.specs.Yard.{put, by, HasBegun, Reach}
 use Rattle.yard.proofs.Sound.{sound}
 use Rattle.refinement.specs.Placed.{number_of, holder_by, holder_told}
-use Rattle.refinement.proofs.View.{AnswerTrue, As, Boxes, KeeperStep, SectionAs, Sized, True, ToABox, VerdictTrue}
-use Rattle.refinement.proofs.Telling.{AllTrue, OutputTrue, all_said, going_said}
+use Rattle.refinement.proofs.View.{As, Boxes, KeeperStep, SectionAs, Sized, True, ToABox, VerdictTrue}
+use Rattle.refinement.proofs.Telling.{AllTrue, all_said, going_said}
 use Rattle.refinement.proofs.Handling.{HomeLaw, HeldLaw, Handled, going_start, handled, home_handled, put_back}
 use Rattle.refinement.proofs.Changing.{change_handled}
 

@@ -1,6 +1,5 @@
 -- What is known of an engine speaks of the sections and of the engine alone: where these are the same it holds on.
-use Rattle.std.proofs.Common.{◌≡◌, ℕ, ◌+◌, ◌⊎◌, sym, ap, ◌∙◌, inl, inr}
-use Rattle.messages.specs.declared.yard.Section.{Section}
+use Rattle.std.proofs.Common.{◌≡◌, ℕ, sym, ap, ◌∙◌, inl, inr}
 use Rattle.messages.specs.declared.yard.Yard as sizes
 use Rattle.messages.specs.declared.message.Act.{Act}
 use Rattle.messages.specs.declared.message.Act.TheVariants as act

@@ -1,5 +1,5 @@
 -- A second: all that is said again is true, and every sign told is an act of the model.
-use Rattle.std.proofs.Common.{◌≡◌, ℕ, zero, suc, ◌+◌, ◌%◌, ◌<◌, ◌≤◌, Bool, true, false, cond, ◌&&◌, eqb, ltb, Some, None, Option, sym, refl, ap, ◌∙◌, subst, le_refl, arith}
+use Rattle.std.proofs.Common.{◌≡◌, ℕ, ◌%◌, ◌<◌, ◌≤◌, Bool, true, false, cond, Some, None, sym, refl, ap, ◌∙◌, subst, le_refl}
 use Rattle.std.proofs.lemmas.Bool.{eqb-true, ltb-true, and_parts, eq-eqb}
 use Rattle.messages.specs.declared.yard.Engine.{Engine}
 use Rattle.messages.specs.declared.yard.Section.{Section}
@@ -13,21 +13,20 @@ use Rattle.engine_state.specs.declared.state.Known.TheVariants as known
 use Rattle.engine_state.specs.declared.state.Mode.{Mode}
 use Rattle.engine_state.specs.declared.state.Mode.TheVariants as mode
 use Rattle.engine_state.specs.declared.state.State.{State}
-use Rattle.engine_state.specs.Calls.{if_pending, call_of_mode, open_of, wait_for, wait_of_mode, wait_of}
+use Rattle.engine_state.specs.Calls.{if_pending, call_of_mode, open_of, wait_of_mode, wait_of}
 use Rattle.keeper.specs.declared.LastCall.{LastCall}
 use Rattle.journal.specs.declared.output.Output.TheVariants as output
-use Rattle.boxes.specs.Log.{Log, none, sent, each}
+use Rattle.boxes.specs.Log.{Log, none, sent}
 use Rattle.boxes.specs.Model.{State as Box}
 use Rattle.boxes.specs.Handle.{open_again, wait_again, tell_again, second_for, second_of}
 use Rattle.home.specs.Home.{is_ours, at}
-use Rattle.home.specs.Queries.{engine, open_at, wait_at, signs_at}
+use Rattle.home.specs.Queries.{engine}
 use Rattle.yard.specs.Yard as model
 use Rattle.yard.specs.Yard.{put, by, HasBegun, Reach}
 use Rattle.yard.proofs.Sound.{reach_on, sound}
 use Rattle.refinement.specs.Placed.{number_of, mode_by}
 use Rattle.refinement.proofs.View.{As, Boxes, Counted, EngineAs, ModeIn, SameCall, Sized, WasCalled, last_at, state_in, used_by}
-use Rattle.refinement.proofs.Telling.{Going, each_going, going_said, put_here, tells_going}
-use Rattle.refinement.proofs.Emitting.{HeldIsHad}
+use Rattle.refinement.proofs.Telling.{Going, each_going, going_said, tells_going}
 use Rattle.refinement.proofs.Handling.{HeldLaw, Handled, going_start, handled}
 
 -- an engine's last call, if it is open, was made

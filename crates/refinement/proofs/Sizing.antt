@@ -1,5 +1,5 @@
 -- Whatever comes to a box its tables keep their sizes.
-use Rattle.std.proofs.Common.{◌≡◌, ℕ, ◌<◌, Bool, true, false, cond, not, ◌||◌, leb, List, map, length, set, Some, None, Ok, Err, Option, Result, sym, refl, ap, ◌∙◌, length-set}
+use Rattle.std.proofs.Common.{◌≡◌, ℕ, Bool, true, false, cond, not, ◌||◌, leb, List, map, length, set, Some, None, Ok, Err, Option, Result, ◌∙◌, length-set}
 use lib.ListN.{length-map}
 use Rattle.messages.specs.declared.yard.Engine.{Engine}
 use Rattle.messages.specs.declared.yard.Section.{Section}
@@ -7,7 +7,6 @@ use Rattle.messages.specs.declared.yard.Yard as sizes
 use Rattle.messages.specs.declared.message.Call.{Call}
 use Rattle.messages.specs.declared.message.Refusal.{Refusal}
 use Rattle.messages.specs.declared.message.Refusal.TheVariants as refusal
-use Rattle.signs.specs.Table as signs
 use Rattle.engine_state.specs.declared.state.Event.{Event}
 use Rattle.engine_state.specs.declared.state.Event.TheVariants as event
 use Rattle.engine_state.specs.Inputs.{answer_at, change_at, sign_at}
@@ -15,11 +14,11 @@ use Rattle.engine_state.specs.declared.state.State.{State}
 use Rattle.home.specs.declared.home.Home.{Home}
 use Rattle.home.specs.declared.home.Note.{Note}
 use Rattle.home.specs.declared.home.Note.TheVariants as note
-use Rattle.home.specs.Home.{is_home, is_ours, at, with, if_ours, made_of}
-use Rattle.home.specs.Inputs.{taken, freed, taking, freeing, unless_for, with_notes, put_in, at_ours, noted, noted_for, is_older, has_section}
+use Rattle.home.specs.Home.{is_home, is_ours, at, with, made_of}
+use Rattle.home.specs.Inputs.{taken, freed, taking, freeing, unless_for, with_notes, put_in, noted_for, is_older, has_section}
 use Rattle.home.specs.Queries.{holder_of, note_at}
 use Rattle.home_laws.specs.Steps as homes
-use Rattle.boxes.specs.Model.{State as Box, with_keeper, with_home}
+use Rattle.boxes.specs.Model.{State as Box, with_home}
 use Rattle.refinement.proofs.View.{Sized}
 
 module _ (y : sizes.Yard) (n : ℕ) (b : Box) where

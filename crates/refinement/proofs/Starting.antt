@@ -1,5 +1,5 @@
 -- Boxes of which there is no record yet are the model's start.
-use Rattle.std.proofs.Common.{◌≡◌, ℕ, zero, suc, ◌+◌, ◌*◌, ◌/◌, ◌%◌, ◌^◌, ◌<◌, ◌≤◌, Bool, true, false, cond, ◌&&◌, eqb, ltb, ◌⊎◌, List, [], ◌∷◌, length, get_or, replicate, sym, refl, ap, ◌∙◌, subst, inl, inr, arith}
+use Rattle.std.proofs.Common.{◌≡◌, ℕ, zero, suc, ◌+◌, ◌*◌, ◌%◌, ◌^◌, ◌<◌, ◌≤◌, Bool, true, false, cond, ltb, get_or, replicate, sym, refl, ap, ◌∙◌, subst, inl, inr, arith}
 use native.Mathlib.Nat.{zero-div}
 use lib.ListN.{get_or-replicate}
 use Rattle.std.proofs.lemmas.Bool.{cases_lt}
@@ -9,7 +9,6 @@ use Rattle.messages.specs.declared.yard.Yard as sizes
 use Rattle.signs.specs.declared.Wait.TheVariants.{Nobody}
 use Rattle.signs.proofs.Places.{fresh_signs}
 use Rattle.signs.specs.declared.Engine as sign
-use Rattle.signs.specs.Table.{engine_at, fresh_of}
 use Rattle.engine_state.specs.declared.state.Known.{Known}
 use Rattle.engine_state.specs.declared.state.Known.TheVariants as known
 use Rattle.engine_state.specs.declared.state.State.{State}
@@ -19,15 +18,14 @@ use Rattle.engine_state.specs.State.{blank, unread}
 use Rattle.keeper.specs.declared.LastCall.{LastCall}
 use Rattle.keeper.specs.Model.{never}
 use Rattle.sections.specs.Table as table
-use Rattle.boxes.specs.Model.{State as Box, fresh}
+use Rattle.boxes.specs.Model.{fresh}
 use Rattle.home.specs.declared.home.Note.{Note}
 use Rattle.home.specs.declared.home.Note.TheVariants as note
 use Rattle.home.specs.Home.{at}
 use Rattle.home.specs.Queries.{engine, note_at}
 use Rattle.yard.specs.Yard as model
 use Rattle.yard.specs.Yard.{HasBegun}
-use Rattle.refinement.specs.Placed.{number_of}
-use Rattle.refinement.proofs.View.{As, Boxes, EngineAs, SectionAs, last_at, state_in, used_by}
+use Rattle.refinement.proofs.View.{As, Boxes, EngineAs, SectionAs, last_at}
 
 -- the same everywhere: read at any place, with the same past the end
 pub all_same : {A : Type 0} (n : ℕ) (a : A) (i : ℕ) → get_or (replicate n a) i a ≡ a

@@ -1,13 +1,10 @@
 -- A box that stops and comes up with what it had stored is as the model has it: a stop is no act of the model. And boxes that nobody called are the model's start.
-use Rattle.std.proofs.Common.{◌≡◌, ℕ, zero, suc, ◌+◌, ◌*◌, ◌%◌, ◌<◌, ◌≤◌, Bool, true, false, cond, ◌&&◌, eqb, ◌⊎◌, List, [], ◌∷◌, length, get_or, set, replicate, sym, refl, ap, ◌∙◌, subst, inl, inr, arith}
+use Rattle.std.proofs.Common.{◌≡◌, ℕ, ◌+◌, ◌*◌, ◌%◌, ◌<◌, Bool, cond, ◌⊎◌, get_or, sym, ap, subst, inl, inr, arith}
 use mathlib.Core.Path.{fun_ext}
 use Rattle.std.proofs.lemmas.Bool.{cases_eq, eq-eqb, ne_eqb}
-use Rattle.messages.specs.declared.yard.BoxNumber.{BoxNumber}
-use Rattle.messages.specs.declared.yard.Engine.{Engine}
 use Rattle.messages.specs.declared.yard.Section.{Section}
 use Rattle.messages.specs.declared.yard.Yard as sizes
 use Rattle.messages.specs.declared.message.Call.{Call}
-use Rattle.messages.specs.declared.message.Message.{Message}
 use Rattle.messages.specs.declared.message.Message.TheVariants as message
 use Rattle.engine_state.specs.declared.state.Known.{Known}
 use Rattle.engine_state.specs.declared.state.Known.TheVariants as known
@@ -24,7 +21,7 @@ use Rattle.home.specs.Queries.{engine, note_at}
 use Rattle.yard.specs.Yard as model
 use Rattle.yard.specs.Yard.{put, HasBegun}
 use Rattle.refinement.specs.Placed.{number_of}
-use Rattle.refinement.proofs.View.{AnswerStands, As, Boxes, EngineAs, SectionAs, True, ToABox, WasCalled, last_at, state_in}
+use Rattle.refinement.proofs.View.{AnswerStands, As, Boxes, EngineAs, SectionAs, WasCalled, last_at, state_in}
 use Rattle.refinement.proofs.Telling.{Stays}
 
 -- a box that came up: what was stored is as it was, and nothing is known besides

@@ -1,5 +1,5 @@
 -- What a box says while an input is handled: each message that it sends is true, and a sign that it tells is an act of the model.
-use Rattle.std.proofs.Common.{◌≡◌, ℕ, zero, suc, ◌+◌, ◌%◌, ◌<◌, ◌≤◌, Bool, true, false, cond, ◌⊎◌, List, [], ◌∷◌, ◌++◌, sym, refl, ap, ◌∙◌, inl, inr, arith}
+use Rattle.std.proofs.Common.{◌≡◌, ℕ, zero, suc, ◌<◌, Bool, true, false, cond, List, [], ◌∷◌, ◌++◌, sym, refl, ap, ◌∙◌}
 use mathlib.Core.List.{Memᴰ}
 use Rattle.messages.specs.declared.yard.BoxNumber.{BoxNumber}
 use Rattle.messages.specs.declared.yard.Engine.{Engine}

@@ -1,7 +1,6 @@
 -- What ties boxes, and all messages ever sent, to the model of the yard: the invariant that every input of a box keeps.
-use Rattle.std.proofs.Common.{◌≡◌, ℕ, ◌+◌, ◌*◌, ◌%◌, ◌<◌, ◌≤◌, Bool, true, false, ◌⊎◌, List, [], ◌∷◌, length, get_or}
+use Rattle.std.proofs.Common.{◌≡◌, ℕ, ◌+◌, ◌*◌, ◌%◌, ◌<◌, ◌≤◌, true, ◌⊎◌, List, length, get_or}
 use Rattle.messages.specs.declared.yard.BoxNumber.{BoxNumber}
-use Rattle.messages.specs.declared.yard.Engine.{Engine}
 use Rattle.messages.specs.declared.yard.Section.{Section}
 use Rattle.messages.specs.declared.yard.Yard as sizes
 use Rattle.messages.specs.declared.message.Act.{Act}
@@ -18,7 +17,7 @@ use Rattle.messages.specs.Range.{SectionIn, HolderIn}
 use Rattle.sections.specs.Table.{place_at}
 use Rattle.sections.specs.Table as table
 use Rattle.signs.specs.declared.Wait.{Wait}
-use Rattle.signs.specs.declared.Wait.TheVariants.{Nobody, For}
+use Rattle.signs.specs.declared.Wait.TheVariants.{For}
 use Rattle.signs.specs.Table as signs
 use Rattle.engine_state.specs.declared.state.Event.{Event}
 use Rattle.engine_state.specs.declared.state.Event.TheVariants as event
@@ -42,7 +41,7 @@ use Rattle.boxes.specs.Model.{State as Box, with_keeper, with_home}
 use Rattle.yard.specs.Yard as model
 use Rattle.yard.specs.Yard.{put, by, Queued, HasBegun, Told, Finds, Run}
 use Rattle.yard.proofs.Views.{Moved}
-use Rattle.refinement.specs.Placed.{number_of, holder_by, holder_told, mode_by, engine_by}
+use Rattle.refinement.specs.Placed.{number_of, holder_by, holder_told, engine_by}
 
 -- the boxes by number
 abbrev pub Boxes : Type 0
