@@ -1,5 +1,5 @@
 -- A box is told exactly if it is the home of an engine concerned: of the holder, or of one found in the queue.
-use Rattle.std.proofs.Common.{◌≡◌, ℕ, Bool, true, false, ◌||◌, eqb, ◌⊎◌, List, [], ◌∷◌, sym, refl, ap, ◌∙◌, inl, inr}
+use Rattle.std.proofs.Common.{◌≡◌, ℕ, true, false, eqb, List, [], ◌∷◌, refl, ap, ◌∙◌, inl, inr}
 use Rattle.std.proofs.lemmas.Bool.{both_ways, or_cases, or_left, or_right, eqb-true, eq-eqb}
 use Rattle.messages.specs.declared.yard.Yard.{Yard}
 use Rattle.sections.specs.declared.Holder.{Holder}

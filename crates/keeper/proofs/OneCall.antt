@@ -1,5 +1,5 @@
 -- What every call keeps to, by cases of its number and of what the sections answer.
-use Rattle.std.proofs.Common.{◌≡◌, ℕ, ◌+◌, ◌<◌, Bool, true, false, cond, ◌&&◌, eqb, ltb, ◌⊎◌, List, length, get_or, set, Some, None, Ok, Err, Option, Result, sym, refl, ap, ◌∙◌, subst, inl, inr, arith}
+use Rattle.std.proofs.Common.{◌≡◌, ℕ, ◌+◌, ◌<◌, true, false, cond, eqb, ltb, ◌⊎◌, List, length, get_or, set, Some, None, Ok, Err, Option, Result, sym, refl, ap, ◌∙◌, inl, inr, arith}
 use Rattle.std.proofs.lemmas.List.{get_or-set_same, get_or-set_other, length-map, set-get_or}
 use Rattle.std.proofs.lemmas.Bool.{and_parts, cases_Bool, cases_eq, cond_both, eq-eqb, eqb-false, eqb-true, ltb-true, ne_eqb}
 use Rattle.messages.specs.declared.message.Act.{Act}
@@ -21,9 +21,9 @@ use Rattle.keeper.specs.declared.calls.Turn.{Turn}
 use Rattle.keeper.specs.declared.calls.Turn.TheVariants as turn
 use Rattle.keeper.specs.declared.Keeper.{Keeper}
 use Rattle.keeper.specs.Model.{State, last_of, model_of, never}
-use Rattle.keeper.specs.Calls.{answer_of, ask_of, call_of, do_by, kept_of, numbered_of, ruled_of, tried_of, turn_of, used_of}
+use Rattle.keeper.specs.Calls.{answer_of, ask_of, call_of, do_by, kept_of, numbered_of, ruled_of, turn_of, used_of}
 use Rattle.keeper.specs.Words.{holder_of, verdict_of}
-use Rattle.keeper.specs.Promise.{AnsweredAgain, Followed, IsNext, OneSection, Risen, UsedUp, once_more}
+use Rattle.keeper.specs.Promise.{AnsweredAgain, Followed, IsNext, OneSection, Risen, UsedUp}
 
 -- what a turn says of the numbers
 abbrev pub Means : ℕ → ℕ → Turn → Type 0

@@ -1,30 +1,29 @@
 -- A keeper names no engine beyond those that call it: by what a call makes of one section.
-use Rattle.std.proofs.Common.{◌≡◌, ℕ, ◌+◌, ◌<◌, Bool, true, false, cond, not, ◌&&◌, ◌||◌, eqb, ltb, ◌⊎◌, List, [], ◌∷◌, ◌++◌, length, get_or, set, replicate, Some, None, Ok, Err, Option, Result, sym, refl, ap, ◌∙◌, inl, inr}
+use Rattle.std.proofs.Common.{◌≡◌, ℕ, ◌+◌, ◌<◌, true, false, not, eqb, List, [], ◌∷◌, ◌++◌, length, get_or, set, replicate, Some, None, Ok, Err, Option, Result, sym, refl, ◌∙◌, inl, inr}
 use Rattle.std.proofs.lemmas.List.{get_or_past, get_or-replicate, length-replicate}
 use Rattle.std.proofs.lemmas.Bool.{and_parts, both_ways, cases_lt, cond_both, eq-eqb, eqb-true, or_cases, or_left, or_right}
 use Rattle.messages.specs.declared.yard.Yard.{Yard}
 use Rattle.messages.specs.declared.message.Act.{Act}
 use Rattle.messages.specs.declared.message.Act.TheVariants as act
 use Rattle.messages.specs.declared.message.Call.{Call}
-use Rattle.messages.specs.Range.{EngineIn, HolderIn, ReplyIn}
+use Rattle.messages.specs.Range.{HolderIn}
 use Rattle.sections.specs.declared.Done.{Done}
 use Rattle.sections.specs.declared.Done.TheVariants as did
 use Rattle.sections.specs.declared.Holder.{Holder}
 use Rattle.sections.specs.declared.Holder.TheVariants as has
 use Rattle.sections.specs.declared.Refusal.{Refusal}
 use Rattle.sections.specs.declared.Refusal.TheVariants as refused
-use Rattle.sections.specs.Table.{Outcome, Section, Table, changeable, first_of, free_by, free_outcome, give_up_outcome, give_up_section, idle, is_in, known, pass_on, refusal_of, rest_of, place_at, settle, take_by, take_outcome, unless, without}
+use Rattle.sections.specs.Table.{Outcome, Section, Table, changeable, first_of, free_by, free_outcome, give_up_outcome, give_up_section, idle, is_in, known, refusal_of, rest_of, place_at, settle, take_by, take_outcome, unless}
 use Rattle.sections.proofs.Lists.{is_in_push, is_in_without}
 use Rattle.sections.proofs.Sound.{not_both, same_engine}
 use Rattle.sections.proofs.Tables.{put_read, set_read}
-use Rattle.keeper.specs.declared.Answer.{Answer}
 use Rattle.keeper.specs.declared.LastCall.{LastCall}
 use Rattle.keeper.specs.declared.Verdict.{Verdict}
 use Rattle.keeper.specs.declared.Verdict.TheVariants as verdict
 use Rattle.keeper.specs.declared.calls.Turn.{Turn}
 use Rattle.keeper.specs.declared.calls.Turn.TheVariants as turn
 use Rattle.keeper.specs.Model.{State, fresh, last_of, never}
-use Rattle.keeper.specs.Calls.{answer_of, ask_of, call_of, do_by, kept_of, numbered_of, ruled_of, used_of}
+use Rattle.keeper.specs.Calls.{answer_of, ask_of, call_of, do_by, kept_of, numbered_of, used_of}
 use Rattle.keeper.specs.Words.{holder_of, verdict_of}
 use Rattle.keeper.specs.Runs.{after}
 use Rattle.keeper.specs.Range.{AnswerIn, StaysInYard, SectionWithin, StaysWithin, VerdictIn, Within}

@@ -1,10 +1,10 @@
 -- Over lists of calls: by induction on what one call keeps to.
-use Rattle.std.proofs.Common.{◌≡◌, ℕ, ◌+◌, ◌<◌, ◌≤◌, Bool, true, false, cond, ◌⊎◌, List, [], ◌∷◌, ◌++◌, length, set, Ok, Err, sym, refl, ap, ◌∙◌, inl, inr, arith, length-set}
-use Rattle.std.proofs.lemmas.Bool.{cases_Bool, both_ways}
+use Rattle.std.proofs.Common.{◌≡◌, ℕ, ◌+◌, ◌<◌, Bool, true, false, cond, List, [], ◌∷◌, ◌++◌, length, Ok, Err, sym, refl, ap, ◌∙◌, inl, inr, arith, length-set}
+use Rattle.std.proofs.lemmas.Bool.{both_ways}
 use Rattle.messages.specs.declared.message.Act.{Act}
 use Rattle.messages.specs.declared.message.Act.TheVariants as act
 use Rattle.messages.specs.declared.message.Call.{Call}
-use Rattle.sections.specs.Table.{Outcome, Table, free_outcome, give_up_outcome, known, settle, take_outcome}
+use Rattle.sections.specs.Table.{Outcome, Table, free_outcome, give_up_outcome, settle, take_outcome}
 use Rattle.keeper.specs.declared.Answer.{Answer}
 use Rattle.keeper.specs.declared.LastCall.{LastCall}
 use Rattle.keeper.specs.declared.Verdict.{Verdict}

@@ -1,5 +1,5 @@
 -- What a keeper makes of a call: the machine that the code is held to. Assumes nothing.
-use Rattle.std.specs.Prelude.{ℕ, ◌+◌, Bool, true, false, cond, List, Result, ◌==◌, slice_set}
+use Rattle.std.specs.Prelude.{ℕ, ◌+◌, cond, Result, ◌==◌, slice_set}
 use Rattle.messages.specs.declared.message.Act.{Act}
 use Rattle.messages.specs.declared.message.Act.TheVariants as act
 use Rattle.messages.specs.declared.message.Call.{Call}

@@ -1,11 +1,8 @@
 -- What is promised of every call, in plain words over the keeper before and after it. Assumes nothing.
-use Rattle.std.specs.Prelude.{◌≡◌, ℕ, ◌+◌, ◌⊎◌, Ok, Result, ◌≢◌}
+use Rattle.std.specs.Prelude.{◌≡◌, ℕ, ◌+◌, ◌⊎◌, Ok, ◌≢◌}
 use Rattle.messages.specs.declared.message.Call.{Call}
-use Rattle.messages.specs.declared.message.Holder.{Holder}
 use Rattle.messages.specs.declared.message.Holder.TheVariants as holder
-use Rattle.messages.specs.declared.message.Refusal.{Refusal}
 use Rattle.messages.specs.declared.message.Refusal.TheVariants as refusal
-use Rattle.messages.specs.declared.message.Reply.{Reply}
 use Rattle.messages.specs.declared.message.Reply.TheVariants as reply
 use Rattle.sections.specs.declared.Done.{Done}
 use Rattle.sections.specs.Table.{change_number_at, holder_at, place_at}

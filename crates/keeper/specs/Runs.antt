@@ -1,9 +1,7 @@
 -- What is promised after every list of calls to a keeper that begins with nothing. Assumes nothing.
 use Rattle.std.specs.Prelude.{◌≡◌, ℕ, ◌+◌, ◌<◌, ◌≤◌, Bool, true, false, cond, List, [], ◌∷◌, ◌++◌, ◌≢◌}
 use Rattle.messages.specs.declared.message.Call.{Call}
-use Rattle.sections.specs.declared.Holder.TheVariants.{Engine}
-use Rattle.sections.specs.Sound.{WaitsAt}
-use Rattle.sections.specs.Table.{Table, holder_at, known}
+use Rattle.sections.specs.Table.{known}
 use Rattle.keeper.specs.declared.Answer.{Answer}
 use Rattle.keeper.specs.declared.Verdict.{Verdict}
 use Rattle.keeper.specs.declared.Verdict.TheVariants as verdict

@@ -1,5 +1,5 @@
 -- the answer tells whom it concerns
-use Rattle.std.proofs.Common.{◌≡◌, sym, subst}
+use Rattle.std.proofs.Common.{sym, subst}
 use Rattle.sections.specs.Model.{table_of}
 use Rattle.keeper.specs.Homes.{Concerns}
 use Rattle.keeper.proofs.Concern.{concerns}

@@ -1,5 +1,5 @@
 -- behind this engine there is as much to find as in all
-use Rattle.std.proofs.Common.{◌≡◌, ◌+◌, Bool, true, false, ◌||◌, eqb, get_or, drop, sym, ap, ◌∙◌, arith}
+use Rattle.std.proofs.Common.{◌≡◌, ◌+◌, true, false, ◌||◌, eqb, get_or, drop, sym, ap, ◌∙◌, arith}
 use Rattle.std.proofs.lemmas.List.{at_drop_more, at_drop_all}
 use Rattle.keeper.specs.Homes.{home_of, home_of_any}
 use Rattle.keeper.proofs.homes.is_home_of_any.Goals as goal
