@@ -1,14 +1,13 @@
 -- Until the ring is found its engines keep their waits, and each that the sign has come to shows it or a higher one: so it comes round as it was.
 -- Assumes nothing.
-use Rattle.std.proofs.Common.{◌≡◌, ℕ, suc, ◌+◌, ◌%◌, ◌<◌, ◌≤◌, ◌⊎◌, List, [], ◌∷◌, sym, refl, ap, ◌∙◌, inl, inr, arith}
+use Rattle.std.proofs.Common.{◌≡◌, ℕ, ◌%◌, ◌<◌, ◌≤◌, ◌⊎◌, sym, refl, ap, ◌∙◌, inl, inr, arith}
 use mathlib.Core.List.{Memᴰ}
-use Rattle.signs.specs.declared.Wait.{Wait}
-use Rattle.signs.specs.declared.Wait.TheVariants.{Nobody, For}
+use Rattle.signs.specs.declared.Wait.TheVariants.{For}
 use Rattle.signs.specs.Signs.{showing}
-use Rattle.rings.specs.Net.{Tell, Net, with, told, Came, Finds, Step, tells, hears, Run, still, onward, Reach, Along, one, more, InRing, Highest, FoundIn, Stage, shows, underway, Carried, opens, meanwhile, tell_on, heard, passed}
+use Rattle.rings.specs.Net.{Net, with, Came, Finds, Step, Run, onward, Reach, Along, one, more, InRing, Highest, FoundIn, Stage, shows, underway, Carried, opens, meanwhile, tell_on, heard, passed}
 use Rattle.rings.specs.Promise.{FoundInAnyRun}
-use Rattle.rings.proofs.Did.{did, stays_told, for_same}
-use Rattle.rings.proofs.Tidy.{Tidy, tidy, shown_rises}
+use Rattle.rings.proofs.Did.{did, stays_told}
+use Rattle.rings.proofs.Tidy.{tidy, shown_rises}
 use Rattle.rings.proofs.Relays.{only_highest}
 use Rattle.rings.proofs.Stays.{Keeps, FindsNow, snoc, rotate, home, ringed_keeps}
 use Rattle.rings.proofs.Covered.{covered, Each, each_in, ring_to}

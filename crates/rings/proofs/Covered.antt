@@ -1,15 +1,14 @@
 -- What an engine shows comes from an own sign as high, further along its waits, or from one that doesn't wait: in a ring, from an own sign of the ring.
 -- Assumes nothing.
-use Rattle.std.proofs.Common.{◌≡◌, ℕ, ◌+◌, ◌%◌, ◌<◌, ◌≤◌, ◌⊎◌, List, [], ◌∷◌, sym, refl, ap, ◌∙◌, inl, inr, arith}
+use Rattle.std.proofs.Common.{◌≡◌, ℕ, ◌≤◌, ◌⊎◌, refl, ap, ◌∙◌, inl, inr, arith}
 use mathlib.Core.List.Memᴰ
 use mathlib.Core.List.{Memᴰ}
 use Rattle.std.proofs.lemmas.Bool.{cases_lt}
-use Rattle.signs.specs.declared.Wait.{Wait}
 use Rattle.signs.specs.declared.Wait.TheVariants.{Nobody, For}
-use Rattle.rings.specs.Net.{Tell, Net, start, Step, Reach, still, onward, Finds, Along, one, more, long, InRing, Highest}
-use Rattle.rings.proofs.Did.{Did, same, began, left, heard, found, did, Said, said, for_nobody, for_same}
+use Rattle.rings.specs.Net.{Tell, Net, Step, Reach, still, onward, Along, one, more, InRing, Highest}
+use Rattle.rings.proofs.Did.{Did, same, began, left, heard, found, did, said, for_nobody, for_same}
 use Rattle.rings.proofs.Tidy.{Tidy, tidy, wait_of, shown_of, own_of, own_rises}
-use Rattle.rings.proofs.Stays.{snoc, join, rotate, turn, waits}
+use Rattle.rings.proofs.Stays.{join, rotate, turn, waits}
 
 pub data Covered (n : Net) (s : ℕ) : ℕ → Type 0 where
   by_own : {x : ℕ} → s ≤ (n.engine x).own → Covered n s x

@@ -1,6 +1,6 @@
 -- A step seen from one engine: what it did, with one equation for each field, so that no update is ever unfolded again.
 -- Assumes nothing.
-use Rattle.std.proofs.Common.{◌≡◌, ℕ, ◌+◌, ◌%◌, ◌<◌, ◌≤◌, cond, eqb, ◌⊎◌, List, [], ◌∷◌, sym, refl, ap, ◌∙◌, inl, inr, arith}
+use Rattle.std.proofs.Common.{◌≡◌, ℕ, ◌%◌, ◌<◌, eqb, ◌⊎◌, refl, inl, inr, arith}
 use mathlib.Core.List.Memᴰ
 use mathlib.Core.List.{Memᴰ}
 use Rattle.std.proofs.lemmas.Bool.{cases_eq, cond-true, cond-false, eq-eqb, ne_eqb}
@@ -8,7 +8,7 @@ use Rattle.signs.specs.declared.Wait.{Wait}
 use Rattle.signs.specs.declared.Wait.TheVariants.{Nobody, For}
 use Rattle.signs.specs.declared.Engine.{Engine}
 use Rattle.signs.specs.Signs.{begun, showing, idle}
-use Rattle.rings.specs.Net.{Tell, Net, with, tell_of, told, Came, Finds, Step, begins, goes_on, tells, hears, finds}
+use Rattle.rings.specs.Net.{Tell, Net, with, Came, Finds, Step, begins, goes_on, tells, hears, finds}
 
 -- who waits for one waits for no other
 pub for_same : {w : Wait} {i j : ℕ} → w ≡ For i → w ≡ For j → i ≡ j

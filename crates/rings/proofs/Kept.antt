@@ -1,15 +1,12 @@
 -- While the engines of a ring keep their waits, the ring and its highest own sign are those of the beginning.
 -- Assumes nothing.
-use Rattle.std.proofs.Common.{◌≡◌, ℕ, suc, ◌+◌, ◌%◌, ◌<◌, ◌≤◌, eqb, ◌⊎◌, sym, refl, ap, ◌∙◌, inl, inr, arith}
+use Rattle.std.proofs.Common.{◌≡◌, ℕ, ◌≤◌, eqb, sym, refl, ap, ◌∙◌, inl, inr, arith}
 use Rattle.std.proofs.lemmas.Bool.{cases_eq, cond-true, cond-false, eq-eqb, ne_eqb}
-use Rattle.signs.specs.declared.Wait.{Wait}
-use Rattle.signs.specs.declared.Wait.TheVariants.{Nobody, For}
-use Rattle.signs.specs.declared.Engine.{Engine}
 use Rattle.signs.specs.Signs.{showing}
-use Rattle.rings.specs.Net.{Net, with, Step, Run, still, onward, Reach, Along, one, more, InRing, Highest}
+use Rattle.rings.specs.Net.{Net, with, Run, still, onward, Reach, Along, one, more, InRing, Highest}
 use Rattle.rings.proofs.Tidy.{wait_of, count_of, own_of, shown_of}
 use Rattle.rings.proofs.Stays.{Keeps, snoc}
-use Rattle.rings.proofs.Covered.{Covered, AllCovered, covered, below_highest}
+use Rattle.rings.proofs.Covered.{Covered, below_highest}
 
 -- all to whom waits lead from k keep theirs
 abbrev pub Intact : Net → Net → ℕ → Type 0

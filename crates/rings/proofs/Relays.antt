@@ -1,13 +1,10 @@
 -- Whoever shows or told the own sign of one that waits stands in a chain of waits that leads to that one; and none of the chain can let go before it.
 -- Assumes nothing.
-use Rattle.std.proofs.Common.{◌≡◌, ℕ, ◌+◌, ◌%◌, ◌<◌, ◌≤◌, ◌⊎◌, List, [], ◌∷◌, sym, refl, ap, ◌∙◌, inl, inr, arith}
+use Rattle.std.proofs.Common.{◌≡◌, ℕ, ◌%◌, ◌<◌, ◌≤◌, sym, refl, ap, ◌∙◌, inl, inr, arith}
 use mathlib.Core.List.Memᴰ
 use mathlib.Core.List.{Memᴰ}
-use Rattle.std.proofs.lemmas.Bool.{cases_eq}
-use Rattle.signs.specs.declared.Wait.{Wait}
 use Rattle.signs.specs.declared.Wait.TheVariants.{Nobody, For}
-use Rattle.signs.specs.declared.Engine.{Engine}
-use Rattle.rings.specs.Net.{Tell, Net, start, Step, Reach, still, onward, Finds, Along, one, more, InRing, Highest}
+use Rattle.rings.specs.Net.{Tell, Net, start, Step, Reach, still, onward, Finds, Along, one, more}
 use Rattle.rings.specs.Promise.{AlwaysReal, OnlyHighest, OneFinder}
 use Rattle.rings.proofs.Did.{Did, same, began, left, heard, found, did, Said, said, for_nobody, for_same}
 use Rattle.rings.proofs.Tidy.{Tidy, tidy, wait_of, shown_of, own_of}

@@ -1,12 +1,11 @@
 -- Everyone in a ring waits for one who waits: so no step but a finding changes the wait, the count or the own sign of any of them.
 -- Assumes nothing.
-use Rattle.std.proofs.Common.{◌≡◌, ℕ, suc, ◌+◌, ◌%◌, ◌<◌, ◌≤◌, ◌⊎◌, sym, refl, ap, ◌∙◌, inl, inr, arith}
-use Rattle.signs.specs.declared.Wait.{Wait}
+use Rattle.std.proofs.Common.{◌≡◌, ℕ, suc, ◌⊎◌, sym, refl, ap, ◌∙◌, inl, inr}
 use Rattle.signs.specs.declared.Wait.TheVariants.{Nobody, For}
-use Rattle.rings.specs.Net.{Net, Step, Reach, Finds, Along, one, more, long, InRing}
+use Rattle.rings.specs.Net.{Net, Step, Finds, Along, one, more, long, InRing}
 use Rattle.rings.specs.Promise.{RingStays, OwnSigns, OnlyUp}
 use Rattle.rings.proofs.Did.{Did, same, began, left, heard, found, did, for_nobody, for_same}
-use Rattle.rings.proofs.Tidy.{Tidy, tidy, wait_of, count_of, own_of, shown_rises}
+use Rattle.rings.proofs.Tidy.{tidy, wait_of, count_of, own_of, shown_rises}
 
 -- one wait more at the end
 pub snoc : {n : Net} {i j k : ℕ} → Along n i j → (n.engine j).wait ≡ For k → Along n i k

@@ -1,13 +1,12 @@
 -- Signs keep in order: own signs leave their engine's number, what is shown only rises, and no sign of an engine's number passes its own sign.
 -- Assumes nothing.
-use Rattle.std.proofs.Common.{◌≡◌, ℕ, ◌+◌, ◌%◌, ◌<◌, ◌≤◌, ◌⊎◌, List, [], ◌∷◌, sym, refl, ap, ◌∙◌, inl, inr, mod-eq_of_lt, arith}
+use Rattle.std.proofs.Common.{◌≡◌, ℕ, ◌%◌, ◌<◌, ◌≤◌, sym, refl, ap, ◌∙◌, inl, inr, mod-eq_of_lt, arith}
 use mathlib.Core.List.Memᴰ
 use mathlib.Core.List.{Memᴰ}
-use Rattle.signs.specs.declared.Wait.{Wait}
-use Rattle.signs.specs.declared.Wait.TheVariants.{Nobody, For}
+use Rattle.signs.specs.declared.Wait.TheVariants.{For}
 use Rattle.signs.specs.declared.Engine.{Engine}
 use Rattle.rings.specs.Net.{Tell, Net, start, Step, Reach, still, onward}
-use Rattle.rings.proofs.Did.{Did, same, began, left, heard, found, did, Said, said, for_nobody, for_same}
+use Rattle.rings.proofs.Did.{Did, same, began, left, heard, found, did, said, for_nobody, for_same}
 
 -- equal engines have equal fields
 pub wait_of : {a b : Engine} → a ≡ b → a.wait ≡ b.wait

@@ -1,21 +1,20 @@
 -- What the code's definitions give is a step of the net: each test that the code passed is a premise of the step.
 -- Assumes nothing.
-use Rattle.std.proofs.Common.{◌≡◌, ℕ, ◌+◌, ◌%◌, ◌<◌, ◌≤◌, Bool, true, false, cond, ◌&&◌, ◌||◌, eqb, ltb, leb, List, Ok, Err, Result, sym, refl, ap, ◌∙◌, arith}
+use Rattle.std.proofs.Common.{◌≡◌, ℕ, ◌<◌, true, false, ◌&&◌, eqb, ltb, Ok, Err, Result, sym, ap, arith}
 use mathlib.Core.List.Memᴰ
 use mathlib.Core.List.{Memᴰ}
-use Rattle.std.proofs.lemmas.Bool.{cond_both, and_parts, or_parts, ltb-true, leb-false, eqb-true, eqb-false}
+use Rattle.std.proofs.lemmas.Bool.{cond_both, and_parts, ltb-true, eqb-true, eqb-false}
 use Rattle.std.proofs.lemmas.Bool.Decides.{nat_tests}
 use Rattle.signs.specs.declared.Wait.{Wait}
 use Rattle.signs.specs.declared.Wait.TheVariants.{Nobody, For}
 use Rattle.signs.specs.declared.Engine.{Engine}
 use Rattle.signs.specs.declared.Refusal.{Refusal}
-use Rattle.signs.specs.declared.Refusal.TheVariants.{OutOfRange, Itself, Stale, Limit}
 use Rattle.signs.specs.declared.Heard.{Heard}
 use Rattle.signs.specs.declared.Heard.TheVariants.{TellOn, Found, PassedOver}
 use Rattle.signs.specs.Signs.{begin_of, hear_of, find_of, begun, showing, idle, next_own, out_of_range, has_room, waits_by, is_for}
 use Rattle.signs.proofs.Lowest.{own_is_lowest}
-use Rattle.rings.specs.Net.{Tell, Net, with, Came, Finds, Step, begins, hears, finds}
-use Rattle.rings.specs.Promise.{CodeSteps, AlwaysCodeSteps}
+use Rattle.rings.specs.Net.{Tell, Net, with, Came, Step, begins, hears, finds}
+use Rattle.rings.specs.Promise.{AlwaysCodeSteps}
 
 refused : {A B : Type 0} {b : B} {a : A} → ◌≡◌ {A = Result A B} (Err b) (Ok a) → ⊥
 refused q = let z : ◌≡◌ {A = ℕ} 0 1 = cc in omega arith

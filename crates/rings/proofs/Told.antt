@@ -1,12 +1,11 @@
 -- From the engine with the highest own sign its sign is told back along the waits, engine by engine, until it comes to that engine again.
 -- Assumes nothing.
-use Rattle.std.proofs.Common.{◌≡◌, ℕ, suc, ◌+◌, ◌%◌, ◌<◌, ◌≤◌, ◌⊎◌, List, [], ◌∷◌, sym, refl, ap, ◌∙◌, inl, inr, arith}
+use Rattle.std.proofs.Common.{◌≡◌, ℕ, suc, sym, refl, ap, ◌∙◌, inl, inr, arith}
 use mathlib.Core.List.{Memᴰ}
 use Rattle.std.proofs.lemmas.Bool.{cases_lt}
-use Rattle.signs.specs.declared.Wait.{Wait}
-use Rattle.signs.specs.declared.Wait.TheVariants.{Nobody, For}
+use Rattle.signs.specs.declared.Wait.TheVariants.{For}
 use Rattle.signs.specs.Signs.{showing}
-use Rattle.rings.specs.Net.{Tell, Net, with, tell_of, told, Came, Finds, Step, tells, hears, Run, still, onward, Reach, Along, one, more, long, InRing, Highest, Telling, none, tell, hear}
+use Rattle.rings.specs.Net.{Net, with, told, Came, Finds, tells, hears, onward, Reach, Along, one, more, long, InRing, Highest, Telling, none, tell, hear}
 use Rattle.rings.specs.Promise.{AlwaysFound}
 use Rattle.rings.proofs.Tidy.{tidy}
 use Rattle.rings.proofs.Stays.{Keeps, snoc, turn, join}

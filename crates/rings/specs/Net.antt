@@ -1,8 +1,7 @@
 -- Engines that wait for one another, each for one at a time, and signs that are told backwards along waits. What was told may come late, twice or never.
 -- Assumes nothing.
-use Rattle.std.specs.Prelude.{◌≡◌, ℕ, zero, suc, ◌%◌, ◌<◌, ◌≤◌, cond, ◌⊎◌, List, [], ◌∷◌, ◌==◌, ◌≢◌}
+use Rattle.std.specs.Prelude.{◌≡◌, ℕ, suc, ◌%◌, ◌<◌, ◌≤◌, cond, ◌⊎◌, List, [], ◌∷◌, ◌==◌, ◌≢◌}
 use mathlib.Core.List.{Memᴰ}
-use Rattle.signs.specs.declared.Wait.{Wait}
 use Rattle.signs.specs.declared.Wait.TheVariants.{Nobody, For}
 use Rattle.signs.specs.declared.Engine.{Engine}
 use Rattle.signs.specs.Signs.{begun, showing, idle}

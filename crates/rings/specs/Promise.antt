@@ -2,7 +2,7 @@
 -- Assumes nothing.
 use Rattle.std.specs.Prelude.{◌≡◌, ℕ, ◌%◌, ◌<◌, ◌≤◌, ◌⊎◌, Ok}
 use mathlib.Core.List.{Memᴰ}
-use Rattle.signs.specs.declared.Wait.TheVariants.{Nobody, For}
+use Rattle.signs.specs.declared.Wait.TheVariants.{Nobody}
 use Rattle.signs.specs.declared.Engine.{Engine}
 use Rattle.signs.specs.declared.Heard.TheVariants.{TellOn, Found}
 use Rattle.signs.specs.Signs.{begin_of, hear_of, find_of}
