@@ -22,10 +22,10 @@ fn main(rt: HostRuntime) -> anyhow::Result<()> {
     for line in BufReader::new(heap, rt.stdin())?.lines(heap) {
         let line = line?;
         let Some((word, number)) = line.as_str().split_once(' ') else {
-            return Err(USAGE.into());
+            return Err(anyhow!("{USAGE}"));
         };
         let (Some(kind), Some(times)) = (Kind::from_word(word), times(number)) else {
-            return Err(USAGE.into());
+            return Err(anyhow!("{USAGE}"));
         };
         let Ok(mut full) = Full::new(heap) else {
             return Err(anyhow!("the box can't be filled"));
