@@ -15,6 +15,6 @@ pub returns : goal.returns
 returns c =
     let w = c.args.self.now in
     IfOk-weaker c.say.result _ _
-    (λ out e. stepped w.yard (map envelope_of (vec_items w.sent)) (vec_items w.stations) c.args.at (delivered_at c.args.from c.args.bytes.now) c.index-mut.result.now c.deliver.new.self _ _
-    (omega (arith, w.stations.ok.0)) c.index-mut.ensures.value c.in_ok-said.ensures e)
+    (λ out e. stepped w.yard (map envelope_of (vec_items w.sent)) (vec_items w.stations) c.args.at (delivered_at c.args.from c.args.bytes.now) c.index_mut.result.now c.deliver.new.self _ _
+    (omega (arith, w.stations.ok.0)) c.index_mut.ensures.value c.in_ok-said.ensures e)
     c.say.ensures
