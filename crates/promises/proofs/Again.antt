@@ -1,5 +1,5 @@
 -- The second delivery comes to the box that the first one left: by what one box makes of the same message again.
-use Rattle.std.proofs.Common.{◌≡◌, ℕ, ◌+◌, ◌-◌, ◌<◌, true, false, ltb, leb, List, [], ◌++◌, length, set, sym, ap, ◌∙◌, subst, inl, inr, arith, length-set}
+use Rattle.std.proofs.Common.{◌≡◌, ℕ, ◌-◌, ◌<◌, true, false, ltb, leb, List, [], ◌++◌, length, set, sym, ap, ◌∙◌, subst, inl, inr, arith, length-set}
 use Rattle.std.proofs.lemmas.List.{append-nil, get_or_append_left, length-append, set-get_or}
 use Rattle.std.proofs.lemmas.Bool.{and_from, and_parts, cases_Bool, cond-false, cond-true, lt-ltb, ltb-true}
 use Rattle.std.specs.List.{flat_map}

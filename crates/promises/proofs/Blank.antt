@@ -1,7 +1,5 @@
 -- A box that comes up from its records knows nothing besides what is stored.
-use Rattle.std.proofs.Common.{◌≡◌, ℕ, zero, suc, ◌+◌, ◌<◌, Bool, true, false, cond, ◌&&◌, eqb, ltb, ◌⊎◌, List, [], ◌∷◌, length, get_or, set, replicate, Ok, Err, Result, sym, refl, ap, ◌∙◌, subst, inl, inr, arith}
-use Rattle.std.proofs.lemmas.List.{get_or-set_same, get_or-set_other}
-use Rattle.std.proofs.lemmas.Bool.{cases_eq, cases_lt, cond_both}
+use Rattle.std.proofs.Common.{◌≡◌, ℕ, zero, suc, ◌+◌, Bool, true, false, cond, eqb, ltb, List, [], ◌∷◌, get_or, set, replicate, Ok, Err, Result, sym, refl, subst, arith}
 use Rattle.messages.specs.declared.yard.BoxNumber.{BoxNumber}
 use Rattle.messages.specs.declared.yard.Engine.{Engine}
 use Rattle.messages.specs.declared.yard.Yard.{Yard}
@@ -12,13 +10,12 @@ use Rattle.engine_state.specs.declared.state.Known.{Known}
 use Rattle.engine_state.specs.declared.state.Known.TheVariants as known
 use Rattle.engine_state.specs.declared.state.State as engines
 use Rattle.home.specs.declared.home.Home.{Home}
-use Rattle.home.specs.declared.home.Note.{Note}
 use Rattle.home.specs.declared.home.Note.TheVariants as note
-use Rattle.home.specs.Home.{apply_of, at, is_ours, with}
+use Rattle.home.specs.Home.{apply_of, is_ours, with}
 use Rattle.home.specs.Queries.{engine, note_at}
 use Rattle.keeper.specs.Calls.{call_of}
 use Rattle.boxes.specs.Model.{State, fresh, with_home, with_keeper}
-use Rattle.boxes.specs.Opening.{open_from, replay_of, kept_here, home_again, is_sound, used_up}
+use Rattle.boxes.specs.Opening.{open_from, replay_of, is_sound, used_up}
 use Rattle.refinement.proofs.Starting.{all_same}
 
 -- nothing is known of any engine, and nobody is noted

@@ -36,7 +36,7 @@ use Rattle.engine_state.specs.Inputs.{answer_at, answer_to, answered, begin_at, 
 use Rattle.home.specs.declared.home.Home.{Home}
 use Rattle.home.specs.Home.{at, if_ours, is_home, is_ours, with}
 use Rattle.home.specs.Inputs.{at_ours, freed, freeing, has_section, is_older, noted_for, put_in, taken, taking}
-use Rattle.home.specs.Queries.{engine, holder_of, note_at}
+use Rattle.home.specs.Queries.{holder_of, note_at}
 use Rattle.home_laws.specs.Steps as homes
 use Rattle.home_laws.proofs.Steps.{stored_by_record}
 use Rattle.refinement.proofs.PlacesSet.{same_section_lem}

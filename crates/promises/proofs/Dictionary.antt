@@ -1,11 +1,10 @@
 -- What is read of a world is the same in the model that has it: who has a section and who waits, rings, own signs, and who was told.
-use Rattle.std.proofs.Common.{◌≡◌, ℕ, ◌+◌, ◌*◌, ◌%◌, ◌<◌, ◌≤◌, ◌⊎◌, List, [], ◌∷◌, ◌++◌, length, get_or, replicate, sym, refl, ap, ◌∙◌, subst, inl, inr, arith}
+use Rattle.std.proofs.Common.{◌≡◌, ℕ, ◌<◌, ◌≤◌, List, [], ◌∷◌, sym, refl, ap, ◌∙◌, subst, inl, inr, arith}
 use mathlib.Core.List.Memᴰ
 use mathlib.Core.List.{Memᴰ}
 use Rattle.std.proofs.lemmas.List.{get_or_past}
 use Rattle.std.proofs.lemmas.Bool.{cases_lt}
 use Rattle.messages.specs.declared.yard.Section.{Section}
-use Rattle.messages.specs.declared.yard.Yard.{Yard}
 use Rattle.messages.specs.declared.message.Act.TheVariants as act
 use Rattle.messages.specs.Range.{SectionIn}
 use Rattle.sections.specs.declared.Holder.{Holder}
@@ -18,7 +17,7 @@ use Rattle.engine_state.specs.declared.state.Mode.TheVariants as mode
 use Rattle.home.specs.Queries.{engine}
 use Rattle.box_laws.proofs.Homes.{everywhere}
 use Rattle.world.specs.Station.{Station, fresh_station}
-use Rattle.world.specs.World.{World, box_at, station_at}
+use Rattle.world.specs.World.{World}
 use Rattle.world.specs.Runs as worlds
 use Rattle.world.specs.Runs.{Apart, IsTold, OneOf, engine_in, holder_in, own_in, queue_in, table_in}
 use Rattle.yard.specs.Yard as model
@@ -26,7 +25,7 @@ use Rattle.yard.specs.Yard.{Along, Distinct, Queued, by, leaving, more, one}
 use Rattle.yard.proofs.Places.{About, busy_numbered}
 use Rattle.yard.proofs.Sound.{Sound, sound}
 use Rattle.refinement.specs.Placed.{holder_by, mode_by, number_of}
-use Rattle.refinement.proofs.View.{EngineAs, ModeIn, SectionAs, last_at, state_in}
+use Rattle.refinement.proofs.View.{EngineAs, ModeIn, SectionAs, last_at}
 use Rattle.promises.proofs.Shapes.{WorldIn}
 use Rattle.promises.proofs.Whole.{Modelled, boxes_of}
 

@@ -1,5 +1,5 @@
 -- Every step of the world is a run of the model, and the world stays as the model has it. By induction on the run every reached world is.
-use Rattle.std.proofs.Common.{◌≡◌, ℕ, zero, suc, ◌+◌, ◌-◌, ◌%◌, ◌<◌, ◌≤◌, Bool, true, false, cond, eqb, ltb, leb, ◌⊎◌, List, [], ◌∷◌, ◌++◌, length, get_or, take, set, Ok, Err, sym, refl, ap, ◌∙◌, subst, inl, inr, arith}
+use Rattle.std.proofs.Common.{◌≡◌, ℕ, zero, suc, ◌-◌, ◌<◌, Bool, true, false, cond, ltb, leb, ◌⊎◌, List, [], ◌∷◌, ◌++◌, length, get_or, take, set, Ok, Err, sym, refl, ap, ◌∙◌, subst, inl, inr, arith}
 use mathlib.Core.Path.{fun_ext}
 use Rattle.std.proofs.lemmas.List.{append-nil, get_or-set_same, get_or-set_other}
 use Rattle.std.proofs.lemmas.Bool.{and_parts, cases_eq, cond_both, eq-eqb, ltb-true, ne_eqb}
@@ -18,7 +18,7 @@ use Rattle.journal.specs.declared.output.Output.{Output}
 use Rattle.journal.specs.declared.output.Output.TheVariants as output
 use Rattle.boxes.specs.declared.signal_box.Input.TheVariants as input
 use Rattle.boxes.specs.Emit.{home_of}
-use Rattle.boxes.specs.Handle.{handle_of, delivered_of, received_of, reminder_for, reminders_of}
+use Rattle.boxes.specs.Handle.{handle_of, delivered_of, reminder_for, reminders_of}
 use Rattle.boxes.specs.Keeping.{refused}
 use Rattle.boxes.specs.Log.{Log, each, none}
 use Rattle.boxes.specs.Log.{said as logged}
@@ -28,7 +28,7 @@ use Rattle.home.specs.Queries.{engine, giving_back_at}
 use Rattle.box_laws.proofs.Logs.{AllSaid, SaysIn}
 use Rattle.box_laws.proofs.Shape.{InShape}
 use Rattle.world.specs.Station.{Restarts, Station, committed, delivered_at, fresh_station, handled_at, opened_as}
-use Rattle.world.specs.World.{Answer, Either, Envelope, Makes, World, at_box, box_at, empty, turned_away, carried, carried_cut, is_box, is_sent, message_at, with_message, envelope_for, said, sent_by, station_at}
+use Rattle.world.specs.World.{Answer, Either, Envelope, Makes, World, at_box, box_at, empty, turned_away, carried, carried_cut, is_box, is_sent, message_at, with_message, said, sent_by, station_at}
 use Rattle.world.specs.declared.step.Step.{Step}
 use Rattle.world.specs.declared.step.Step.TheVariants as step
 use Rattle.world.specs.Runs as worlds
@@ -46,7 +46,7 @@ use Rattle.refinement.proofs.Starting.{fresh_as, fresh_boxes}
 use Rattle.refinement.proofs.Stopping.{Reopened, stop_as, stop_stays}
 use Rattle.refinement.proofs.Laws.{free_is_run, message_is_run, second_is_run, take_is_run}
 use Rattle.promises.proofs.Blank.{fresh_blank, open_blank}
-use Rattle.promises.proofs.Shapes.{EnvelopeIn, StationIn, WorldIn, cut_is, delivered_in, delivered_is, empty_in, fresh_anywhere, handled_in, is_box_lem, makes_in, message_in, opened_in, restart_is}
+use Rattle.promises.proofs.Shapes.{EnvelopeIn, WorldIn, cut_is, delivered_in, delivered_is, empty_in, fresh_anywhere, handled_in, is_box_lem, makes_in, message_in, opened_in, restart_is}
 
 -- the boxes of a world, by number
 abbrev pub boxes_of : World → Boxes

@@ -1,9 +1,7 @@
 -- Every ring is found. Assumes nothing.
-use Rattle.std.specs.Prelude.{◌≡◌, ℕ, zero, suc, ◌<◌, ◌≤◌, true, false, ◌⊎◌, List, [], ◌∷◌, ◌++◌, length, Some}
+use Rattle.std.specs.Prelude.{◌≡◌, ℕ, suc, true, List, [], ◌∷◌, ◌++◌, length, Some}
 use Rattle.messages.specs.declared.yard.BoxNumber.{BoxNumber}
 use Rattle.messages.specs.declared.yard.Engine.{Engine}
-use Rattle.messages.specs.declared.yard.Section.{Section}
-use Rattle.messages.specs.declared.message.Act.TheVariants as act
 use Rattle.messages.specs.declared.message.Message.TheVariants as message
 use Rattle.messages.specs.Table.{bytes_of}
 use Rattle.journal.specs.declared.output.Output.TheVariants as output

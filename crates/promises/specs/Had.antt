@@ -1,20 +1,15 @@
 -- Who is said to have a section has it. Assumes nothing.
-use Rattle.std.specs.Prelude.{◌≡◌, ℕ, zero, suc, ◌<◌, ◌≤◌, true, false, ◌⊎◌, List, [], ◌∷◌, ◌++◌, length, Some}
+use Rattle.std.specs.Prelude.{◌≡◌, ℕ, List}
 use Rattle.messages.specs.declared.yard.BoxNumber.{BoxNumber}
 use Rattle.messages.specs.declared.yard.Engine.{Engine}
 use Rattle.messages.specs.declared.yard.Section.{Section}
 use Rattle.messages.specs.declared.message.Act.TheVariants as act
 use Rattle.messages.specs.declared.message.Message.TheVariants as message
-use Rattle.messages.specs.Table.{bytes_of}
 use Rattle.journal.specs.declared.output.Output.TheVariants as output
 use Rattle.sections.specs.declared.Holder.TheVariants as has
-use Rattle.engine_state.specs.declared.state.Wait.{Wait}
-use Rattle.home.specs.declared.home.Note.TheVariants as note
-use Rattle.home.specs.Queries.{note_at, wait_at}
 use Rattle.world.specs.declared.step.Step.{Step}
-use Rattle.world.specs.declared.step.Step.TheVariants as step
-use Rattle.world.specs.World.{Answer, Makes, World, is_sent, message_at}
-use Rattle.world.specs.Runs.{BelowLimits, Highest, IsTold, OneOf, Reached, Ring, Run, SaidIn, Says, Taken, engine_in, holder_in, home_in, own_in}
+use Rattle.world.specs.World.{Answer, Makes, World}
+use Rattle.world.specs.Runs.{Reached, Run, SaidIn, Says, Taken, holder_in}
 
 -- Whoever is said to have a section has it, until its home sends that it frees it.
 abbrev pub AlwaysHad : Type 0

@@ -1,20 +1,10 @@
 -- Who is told to give back, and how long a ring stays. Assumes nothing.
-use Rattle.std.specs.Prelude.{◌≡◌, ℕ, zero, suc, ◌<◌, ◌≤◌, true, false, ◌⊎◌, List, [], ◌∷◌, ◌++◌, length, Some}
-use Rattle.messages.specs.declared.yard.BoxNumber.{BoxNumber}
+use Rattle.std.specs.Prelude.{ℕ, ◌⊎◌, List}
 use Rattle.messages.specs.declared.yard.Engine.{Engine}
-use Rattle.messages.specs.declared.yard.Section.{Section}
-use Rattle.messages.specs.declared.message.Act.TheVariants as act
-use Rattle.messages.specs.declared.message.Message.TheVariants as message
-use Rattle.messages.specs.Table.{bytes_of}
 use Rattle.journal.specs.declared.output.Output.TheVariants as output
-use Rattle.sections.specs.declared.Holder.TheVariants as has
-use Rattle.engine_state.specs.declared.state.Wait.{Wait}
-use Rattle.home.specs.declared.home.Note.TheVariants as note
-use Rattle.home.specs.Queries.{note_at, wait_at}
 use Rattle.world.specs.declared.step.Step.{Step}
-use Rattle.world.specs.declared.step.Step.TheVariants as step
-use Rattle.world.specs.World.{Answer, Makes, World, is_sent, message_at}
-use Rattle.world.specs.Runs.{BelowLimits, Highest, IsTold, OneOf, Reached, Ring, Run, SaidIn, Says, Taken, engine_in, holder_in, home_in, own_in}
+use Rattle.world.specs.World.{Answer, Makes, World}
+use Rattle.world.specs.Runs.{Highest, IsTold, OneOf, Reached, Ring, Says}
 
 -- Whoever is told to give back stands in a ring of that moment, has its highest own sign, and no other of the ring has been told.
 abbrev pub ToldInARing : Type 0
