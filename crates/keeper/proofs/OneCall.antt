@@ -10,7 +10,7 @@ use Rattle.sections.specs.declared.Done.TheVariants as did
 use Rattle.sections.specs.declared.Holder.{Holder}
 use Rattle.sections.specs.declared.Holder.TheVariants as has
 use Rattle.sections.specs.declared.Refusal.{Refusal}
-use Rattle.sections.specs.declared.Refusal.TheVariants as not
+use Rattle.sections.specs.declared.Refusal.TheVariants as refused
 use Rattle.sections.specs.Table.{Outcome, Section, Table, changeable, free_by, free_outcome, give_up_outcome, holder_at, idle, is_in, known, refusal_of, place_at, settle, take_by, take_outcome, unless}
 use Rattle.sections.specs.Layout.{section_of}
 use Rattle.keeper.specs.declared.Answer.{Answer}
@@ -140,10 +140,10 @@ module _ (k : State) (whole : length k.calls ≡ 64) (long : length k.table ≡ 
       ruled h n t (Ok (did.LetGo has.Free)) q = (n, (did.LetGo has.Free, q, refl), used_up h.0 _, (refl, refl))
       ruled h n t (Ok (did.LetGo (has.Engine x))) q = ((n, (did.LetGo (has.Engine x), q, refl), used_up h.0 _, (refl, refl)), (x, ap holder_of (do_names c.act k.table c.engine.0 c.section.place t (has.Engine x) (omega arith) q)))
       ruled h n t (Ok did.Left) q = (n, (did.Left, q, refl), used_up h.0 _, (refl, refl))
-      ruled h n t (Err not.OutOfRange) q = unchanged t (do_err c.act k.table c.engine.0 c.section.place t not.OutOfRange q)
-      ruled h n t (Err not.Waiting) q = (do_err c.act k.table c.engine.0 c.section.place t not.Waiting q, n, refl, used_up h.0 _, (refl, refl))
-      ruled h n t (Err not.Mismatch) q = (do_err c.act k.table c.engine.0 c.section.place t not.Mismatch q, n, refl, used_up h.0 _, (refl, refl))
-      ruled h n t (Err not.AtLimit) q = (unchanged t (do_err c.act k.table c.engine.0 c.section.place t not.AtLimit q), n, refl, (refl, refl))
+      ruled h n t (Err refused.OutOfRange) q = unchanged t (do_err c.act k.table c.engine.0 c.section.place t refused.OutOfRange q)
+      ruled h n t (Err refused.Waiting) q = (do_err c.act k.table c.engine.0 c.section.place t refused.Waiting q, n, refl, used_up h.0 _, (refl, refl))
+      ruled h n t (Err refused.Mismatch) q = (do_err c.act k.table c.engine.0 c.section.place t refused.Mismatch q, n, refl, used_up h.0 _, (refl, refl))
+      ruled h n t (Err refused.AtLimit) q = (unchanged t (do_err c.act k.table c.engine.0 c.section.place t refused.AtLimit q), n, refl, (refl, refl))
 
       numbered : (c.engine.0 < 64) × (c.section.place < 64) → (t : Turn) → Means (last_of k c.engine.0).number c.number t → Followed k c (numbered_of t k c).0 (numbered_of t k c).1
       numbered h turn.Last n = (refl, ap (λ (m : ℕ). record { number = m; answer = (last_of k c.engine.0).answer }) (sym n))

@@ -13,7 +13,7 @@ use Rattle.sections.specs.declared.Done.TheVariants as did
 use Rattle.sections.specs.declared.Holder.{Holder as SectionHolder}
 use Rattle.sections.specs.declared.Holder.TheVariants as has
 use Rattle.sections.specs.declared.Refusal.{Refusal as SectionRefusal}
-use Rattle.sections.specs.declared.Refusal.TheVariants as not
+use Rattle.sections.specs.declared.Refusal.TheVariants as refused
 use Rattle.sections.specs.Bytes.{answer_byte, number_of, who_byte}
 use Rattle.keeper.specs.declared.Answer.{Answer}
 use Rattle.keeper.specs.declared.Verdict.{Verdict}
@@ -26,10 +26,10 @@ holder_of (has.Engine e) = holder.Engine (record { 0 = e })
 
 -- why a call is refused
 abbrev pub refusal_of : SectionRefusal → Refusal
-refusal_of not.OutOfRange = refusal.Malformed
-refusal_of not.Waiting = refusal.Waiting
-refusal_of not.Mismatch = refusal.Mismatch
-refusal_of not.AtLimit = refusal.Exhausted
+refusal_of refused.OutOfRange = refusal.Malformed
+refusal_of refused.Waiting = refusal.Waiting
+refusal_of refused.Mismatch = refusal.Mismatch
+refusal_of refused.AtLimit = refusal.Exhausted
 
 -- what a call that was done is answered
 abbrev pub done_reply : Done → Reply
@@ -62,10 +62,10 @@ done_of a did.Left = verdict.Done a
 -- what came of a call that was put to the sections
 abbrev pub verdict_of : Answer → Result Done SectionRefusal → Verdict
 verdict_of a (Ok done) = done_of a done
-verdict_of a (Err not.OutOfRange) = verdict.Malformed
-verdict_of a (Err not.Waiting) = verdict.Refused refusal.Waiting a
-verdict_of a (Err not.Mismatch) = verdict.Refused refusal.Mismatch a
-verdict_of a (Err not.AtLimit) = verdict.AtLimit a
+verdict_of a (Err refused.OutOfRange) = verdict.Malformed
+verdict_of a (Err refused.Waiting) = verdict.Refused refusal.Waiting a
+verdict_of a (Err refused.Mismatch) = verdict.Refused refusal.Mismatch a
+verdict_of a (Err refused.AtLimit) = verdict.AtLimit a
 
 -- the numbers of refusals, answers and holders are the same in both words
 abbrev pub SameNumbers : Type 0
