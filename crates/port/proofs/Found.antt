@@ -1,5 +1,5 @@
 -- In a world that steps lead to, the walk from an engine of a ring finds that ring: whoever stands in a queue waits for one only, and a ring has at most 64.
-use Rattle.std.proofs.Common.{◌≡◌, ℕ, zero, suc, ◌+◌, ◌-◌, ◌<◌, ◌≤◌, Bool, true, false, cond, not, ◌&&◌, ◌||◌, eqb, ltb, ◌⊎◌, List, [], ◌∷◌, ◌++◌, map, length, Some, None, Option, sym, refl, ap, ◌∙◌, subst, inl, inr, append_assoc, arith}
+use Rattle.std.proofs.Common.{◌≡◌, ℕ, zero, suc, ◌+◌, ◌-◌, ◌<◌, ◌≤◌, Bool, true, ◌||◌, eqb, ◌⊎◌, List, [], ◌∷◌, ◌++◌, map, length, Some, None, Option, sym, refl, ap, ◌∙◌, inl, inr, append_assoc, arith}
 use mathlib.Core.List.{Memᴰ}
 use Rattle.std.proofs.lemmas.Bool.{cases_Bool, cases_eq, cond-false, cond-true, eq-eqb, eqb-true, lt-ltb, ne_eqb}
 use Rattle.std.proofs.lemmas.Bool.Decides.{nat_tests}
@@ -11,9 +11,8 @@ use Rattle.keeper.specs.Words.{holder_of}
 use Rattle.sections.specs.declared.Holder.{Holder as SectionHolder}
 use Rattle.sections.specs.declared.Holder.TheVariants as has
 use Rattle.sections.specs.Sound.{once}
-use Rattle.sections.specs.Table.{Table, is_in}
+use Rattle.sections.specs.Table.{is_in}
 use Rattle.sections.proofs.Lists.{at_most}
-use Rattle.boxes.specs.Model.{State}
 use Rattle.home.specs.Queries.{engine}
 use Rattle.world.specs.World.{World, box_at, is_box, state_at, station_at}
 use Rattle.world.specs.Runs.{Apart, Chain, OneOf, Reached, Ring, WaitsFor, holder_in, queue_in, table_in}
@@ -24,8 +23,7 @@ use Rattle.refinement.specs.Placed.{number_of}
 use Rattle.promises.proofs.Dictionary.{from_mem, holder_of_model, queue_in_yard, queued_of, ring_numbered, sound_in, to_mem, waits_of_world}
 use Rattle.promises.proofs.Shapes.{WorldIn, reached_in}
 use Rattle.promises.proofs.Whole.{Modelled, reached_modelled}
-use Rattle.port.specs.declared.walk.Next.{Next}
-use Rattle.port.specs.declared.walk.Next.TheVariants.{Out, Back, On}
+use Rattle.port.specs.declared.walk.Next.TheVariants.{Back, On}
 use Rattle.port.specs.Walk.{after_of, first_from, or_else, ring_from, walk, whom_at, whom_by, whom_in, whom_of}
 use Rattle.port.proofs.Looking.{first_end, first_on, walk_back, walk_next}
 

@@ -1,5 +1,5 @@
 -- Each turn is one engine further along the walk.
-use Rattle.std.proofs.Common.{◌≡◌, ℕ, ◌-◌, Some, None, vec_items, Option, sym, ap, ◌∙◌, arith}
+use Rattle.std.proofs.Common.{◌-◌, Some, vec_items, Option, sym, ap, ◌∙◌, arith}
 use Rattle.messages.specs.declared.message.Holder.{Holder}
 use Rattle.world.specs.World.{world_of}
 use Rattle.port.specs.Walk.{after_of, walk, whom_of}

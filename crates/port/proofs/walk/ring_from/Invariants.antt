@@ -1,5 +1,5 @@
 -- from here on the walk finds what it finds from the first engine
-use Rattle.std.proofs.Common.{◌≡◌, [], vec_items}
+use Rattle.std.proofs.Common.{◌≡◌, vec_items}
 use Rattle.world.specs.World.{world_of}
 use Rattle.port.specs.Walk.{ring_from, walk, whom_of}
 use Rattle.port.proofs.walk.ring_from.Given as goal

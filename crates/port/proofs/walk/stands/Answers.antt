@@ -1,5 +1,5 @@
 -- One place of the queue further.
-use Rattle.std.proofs.Common.{◌≡◌, ℕ, ◌<◌, ◌≤◌, List, length, sym, refl, arith}
+use Rattle.std.proofs.Common.{ℕ, ◌<◌, ◌≤◌, List, length}
 use Rattle.keeper.specs.Model.{model_of}
 use Rattle.sections.specs.Table.{queue_at}
 use Rattle.port.proofs.Looking.{queue_end, queue_hit, queue_miss, queue_some}

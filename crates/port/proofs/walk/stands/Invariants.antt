@@ -1,5 +1,5 @@
 -- behind this place of the queue there is as much to find as in all of it
-use Rattle.std.proofs.Common.{◌≡◌, length, drop}
+use Rattle.std.proofs.Common.{◌≡◌, drop}
 use Rattle.keeper.specs.Model.{model_of}
 use Rattle.sections.specs.Table.{is_in, queue_at}
 use Rattle.port.proofs.walk.stands.Given as goal

@@ -1,5 +1,5 @@
 -- One box further.
-use Rattle.std.proofs.Common.{◌≡◌, ℕ, refl, ap, ◌∙◌, arith}
+use Rattle.std.proofs.Common.{ap, ◌∙◌}
 use Rattle.messages.specs.declared.yard.Yard.{Yard}
 use Rattle.world.specs.World.{box_at, state_at, world_of}
 use Rattle.port.specs.Walk.{first_from, whom_by}

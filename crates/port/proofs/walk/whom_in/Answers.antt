@@ -1,5 +1,4 @@
 -- One place further.
-use Rattle.std.proofs.Common.{◌≡◌, refl, arith}
 use Rattle.keeper.specs.Model.{model_of}
 use Rattle.port.specs.Walk.{whom_at}
 use Rattle.port.proofs.Looking.{first_hit, first_miss, first_none}

@@ -4,4 +4,4 @@ use Rattle.port.proofs.Reach.{from_nothing}
 use Rattle.port.proofs.port.Port.new.Goals as goal
 
 pub invariant_of-result : goal.invariant_of-result
-invariant_of-result c = (∣ from_nothing (world_of c.in_ok-world.world) c.args.yard c.in_ok-world.ensures ∣₁, tt)
+invariant_of-result c = record { reached = ∣ from_nothing (world_of c.in_ok-world.world) c.args.yard c.in_ok-world.ensures ∣₁ }

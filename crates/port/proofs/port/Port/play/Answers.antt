@@ -6,11 +6,12 @@ use Rattle.port.proofs.Reach.{step_on}
 use Rattle.port.proofs.port.Port.play.Goals as goal
 
 pub invariant_of-result : goal.invariant_of-result
-invariant_of-result c = (
-  ∥∥₁_map c.args.self.reached
-      (λ r. step_on (world_of c.args.self.world) (world_of c.play.new.self) c.args.step (answer_of c.in_ok-outcome.outcome) r c.in_ok-outcome.ensures),
-  tt,
-)
+invariant_of-result c =
+    record {
+      reached =
+          ∥∥₁_map c.args.self.reached
+          (λ r. step_on (world_of c.args.self.world) (world_of c.play.new.self) c.args.step (answer_of c.in_ok-outcome.outcome) r c.in_ok-outcome.ensures);
+    }
 
 pub returns : goal.returns
 returns c =
