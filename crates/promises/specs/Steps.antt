@@ -20,7 +20,7 @@ use Rattle.world.specs.Runs.{OneOf, Reached, holder_in, queue_in, table_in}
 abbrev pub Before : ℕ → ℕ → List ℕ → Type 0
 Before i j queue = (front rest : List ℕ) × (queue ≡ front ++ i ∷ rest) × OneOf j rest
 
--- 5. Who has a section after another was first of its queue; and who came later never is before.
+-- Who has a section after another was first of its queue; and who came later never is before.
 abbrev pub AlwaysInTurn : Type 0
 AlwaysInTurn = (w u : World) (s : Step) (a : Answer) (place : Section) → Reached w → Makes w s (u, a)
     → ((i j : ℕ) → holder_in w place ≡ has.Engine i → holder_in u place ≡ has.Engine j → (i ≢ j) → (rest : List ℕ) × (queue_in w place ≡ j ∷ rest))
@@ -32,17 +32,17 @@ StoredAsBefore w u n = ((station_at u n).state.keeper ≡ (station_at w n).state
     × ((station_at u n).state.home.signs ≡ (station_at w n).state.home.signs) × ((station_at u n).state.home.stored ≡ (station_at w n).state.home.stored)
     × ((station_at u n).file ≡ (station_at w n).file) × (u.sent ≡ w.sent)
 
--- 6. A box that stops comes up; with the same holders, queues, change numbers, last calls and answers; its engines with the same signs, counts and last numbers.
+-- A box that stops comes up; with the same holders, queues, change numbers, last calls and answers; its engines with the same signs, counts and last numbers.
 abbrev pub SameAfterAStop : Type 0
 SameAfterAStop = (w : World) (n : BoxNumber) → Reached w → is_box w n ≡ true
     → ((u : World) × (a : Answer) × Makes w (step.Stop n) (u, a)) × ((u : World) (a : Answer) → Makes w (step.Stop n) (u, a) → StoredAsBefore w u n)
 
--- 7. A message that was cut short is turned away by 1, and nothing changes.
+-- A message that was cut short is turned away by 1, and nothing changes.
 abbrev pub CutChangesNothing : Type 0
 CutChangesNothing = (w u : World) (m n : ℕ) (a : Answer) → Reached w → Makes w (step.Cut m n) (u, a)
     → (u ≡ w) × ((a ≡ Err refusal.Malformed) ⊎ (a ≡ Ok ((message_at w m).to, length w.sent, output.Refused refusal.Malformed ∷ [])))
 
--- 7. The same message again changes no box.
+-- The same message again changes no box.
 abbrev pub AgainChangesNothing : Type 0
 AgainChangesNothing = (w u v : World) (m : ℕ) (a b : Answer) → Reached w → Makes w (step.Deliver m) (u, a) → Makes u (step.Deliver m) (v, b) → v.stations ≡ u.stations
 
@@ -55,7 +55,7 @@ TurnedAwayBy (Ok a) q = (rest : List Output) × (a.2 ≡ output.Refused q ∷ re
 abbrev pub SameSectionsAndEngines : World → World → Type 0
 SameSectionsAndEngines w u = (n : BoxNumber) → (table_in u n ≡ table_in w n) × ((station_at u n).state.home ≡ (station_at w n).state.home)
 
--- 7. A line that is turned away changes nothing; a message that is turned away changes no section and no engine (a refused call uses up its number).
+-- A line that is turned away changes nothing; a message that is turned away changes no section and no engine (a refused call uses up its number).
 abbrev pub AlwaysTurnedAway : Type 0
 AlwaysTurnedAway = (w u : World) (a : Answer) (q : Refusal) → Reached w → TurnedAwayBy a q
     → ((e : Engine) (s : Section) → Makes w (step.Take e s) (u, a) → u ≡ w) × ((e : Engine) (s : Section) → Makes w (step.Free e s) (u, a) → u ≡ w)
