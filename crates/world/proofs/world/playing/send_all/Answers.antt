@@ -1,6 +1,6 @@
 -- One output more at each turn.
-use Rattle.std.proofs.Common.{◌≡◌, ◌++◌, map, vec_items, sym, ap, ◌∙◌}
-use Rattle.std.proofs.lemmas.List.{append-nil, take_all}
+use Rattle.std.proofs.Common.{◌++◌, map, vec_items, ap, ◌∙◌}
+use Rattle.std.proofs.lemmas.List.{take_all}
 use Rattle.std.specs.List.{flat_map}
 use Rattle.world.specs.World.{envelope_of, sent_by}
 use Rattle.world.proofs.Growing.{sent_more}
