@@ -10,6 +10,7 @@ use journal::{DiskFile, Said};
 use messages::BoxNumber;
 use std::env;
 use std::io::{Read, Write};
+use std::process::ExitCode;
 
 const FOLDER: &str = ".";
 
@@ -94,10 +95,12 @@ fn start(rt: &HostRuntime) -> Result<(), Ending> {
     run(rt, number, &mut state, &mut file)
 }
 
-fn main(rt: HostRuntime) -> Result<(), Ending> {
-    let ended = start(&rt);
-    if let Err(ending) = &ended {
-        let _ = eprintln!(rt; "{ending}");
+fn main(rt: HostRuntime) -> ExitCode {
+    match start(&rt) {
+        Ok(()) => ExitCode::SUCCESS,
+        Err(ending) => {
+            let _ = eprintln!(rt; "{ending}");
+            ExitCode::FAILURE
+        }
     }
-    ended
 }
