@@ -215,7 +215,7 @@ fn step(line: &[u8]) -> Option<Step>
 fn is_show(line: &[u8]) -> bool
     ensures { result ≡ bytes_eq line.now (codes "show") }
 {
-    line == b"show"
+    line == b"show".as_slice()
 }
 
 fn is_space(byte: u8) -> bool

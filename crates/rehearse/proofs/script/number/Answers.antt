@@ -1,5 +1,5 @@
 -- One digit more at each turn.
-use Rattle.std.proofs.Common.{◌≡◌, true, false, eqb, length, get_or, Some, None}
+use Rattle.std.proofs.Common.{◌≡◌, false, eqb, length, get_or, Some, None}
 use Rattle.rehearse.specs.Script.{digits_from, longer_of, number_of}
 use Rattle.rehearse.proofs.Turns.{digits_more, is_number, no_number}
 use Rattle.rehearse.proofs.script.number.Goals as goal
