@@ -112,7 +112,7 @@ module _ (w : World) (z : model.Yard) (i : WorldIn w) (m : Modelled w z) where
         | inr is ↦ inl (ap (whom_by e) (cond-false (is_box w (box_at b)) (Some (station_at w (box_at b)).state) None is))
       ]
 
-  -- WHOM AN ENGINE WAITS FOR IS AlwaysFound
+  -- WHOM AN ENGINE WAITS FOR IS FOUND
   pub whom_found : (e j : ℕ) → WaitsFor w e j → whom_of w (engine e) ≡ Some (holder.Engine (engine j))
   whom_found e j (s, o, h) =
       let waits : WaitsFor w e j = (s, o, h) in
@@ -142,7 +142,7 @@ module _ (w : World) (z : model.Yard) (i : WorldIn w) (m : Modelled w z) where
       chain_walked first (left - 1) y ys (done ++ engine x ∷ []) c.1 (λ o. never (from_mem (y ∷ ys) (Memᴰ.tail (to_mem ys o)))) (omega arith) ∙
       ap Some (append_assoc done (engine x ∷ []) (map engine (y ∷ ys)))
 
-  -- A RING IS AlwaysFound FROM EACH OF ITS ENGINES
+  -- A RING IS FOUND FROM EACH OF ITS ENGINES
   pub ring_walked : (first : Engine) (others : List ℕ) → Ring w (first.0 ∷ others) → ring_from w first ≡ Some (first ∷ map engine others)
   ring_walked first others r =
       let few = at_most 64 (first.0 ∷ others) (once_apart (first.0 ∷ others) r.0)

@@ -1,4 +1,4 @@
--- Every ring is found. Assumes nothing.
+-- That every ring is found, as it is to be promised: no function carries these statements yet. Assumes nothing.
 use Rattle.std.specs.Prelude.{◌≡◌, ℕ, suc, true, List, [], ◌∷◌, ◌++◌, length, Some}
 use Rattle.messages.specs.declared.yard.BoxNumber.{BoxNumber}
 use Rattle.messages.specs.declared.yard.Engine.{Engine}
