@@ -3,8 +3,9 @@
 set -eu
 cd "$(dirname "$0")/.."
 mkdir -p target/bench
-(cd crates/recode && rt lib) > target/bench/staticlib.log 2>&1 || { cat target/bench/staticlib.log; exit 1; }
-rustc --edition 2024 -C opt-level=3 -o target/bench/messages bench/messages.rs -L native=crates/recode/out -l static=recode
+(cd crates/recode_c && rt lib) > target/bench/staticlib.log 2>&1 || { cat target/bench/staticlib.log; exit 1; }
+cp crates/recode_c/out/librecode_c.a target/bench/librecode.a
+rustc --edition 2024 -C opt-level=3 -o target/bench/messages bench/messages.rs -L native=target/bench -l static=recode
 target/bench/messages
 instructions() {
     valgrind --tool=callgrind --callgrind-out-file=/dev/null target/bench/messages "$1" 2>&1 | sed -n 's/.*Collected : //p'

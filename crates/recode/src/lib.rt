@@ -1,4 +1,4 @@
-// For callers in C and plain Rust: one message, read and written again.
+// One message, read and written again; `recode_c` hands it to callers in C and plain Rust.
 #![tactic(auto)]
 
 ghost use Rattle.std.specs.Prelude.{◌≡◌};
@@ -7,8 +7,7 @@ ghost use Rattle.recode.specs.Again.{Again};
 use messages::{Encoded, Yard, decode, encode_into};
 
 // How many bytes of `out` are the message again; 0 where `bytes` is none or `out` is too short.
-#[unsafe(no_mangle)]
-pub extern "C" fn recode(boxes: u8, engines: u8, bytes: &[u8], out: &mut [u8]) -> usize
+pub fn recode(boxes: u8, engines: u8, bytes: &[u8], out: &mut [u8]) -> usize
     ensures { Again bytes.now out.new result }
 {
     let Some(yard) = Yard::new(boxes, engines) else {
