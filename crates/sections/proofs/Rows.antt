@@ -2,7 +2,7 @@
 use Rattle.std.proofs.Common.{◌≡◌, ℕ, zero, suc, ◌<◌, Bool, true, false, cond, ltb, ◌||◌, List, [], ◌∷◌, length, get_or, set, None, Ok, Err, Result, sym, refl, ap, ◌∙◌, subst, arith, length-set}
 use Rattle.std.specs.List.{list_any}
 use Rattle.std.proofs.lemmas.Bool.{and_parts, ltb-true}
-use Rattle.std.proofs.lemmas.List.{length-map, set-get_or}
+use Rattle.std.proofs.lemmas.List.{set-get_or}
 use Rattle.sections.specs.declared.Done.{Done}
 use Rattle.sections.specs.declared.Refusal.{Refusal}
 use Rattle.sections.specs.declared.Sections.{Sections}
@@ -30,9 +30,6 @@ sound_of x = record { order = order x.rows; apart = x.apart }
     order [] p = empty_sound.order 64
     order (r ∷ rows) zero = row_order r
     order (r ∷ rows) (suc p) = order rows p
-
-pub table_length : (x : Sections) → length (table_of x) ≡ 64
-table_length x = length-map x.rows section_of ∙ x.whole
 
 -- who waits is found in some row
 pub waits_rows : (e : ℕ) (rows : List Row) → list_any (λ (r : Row). is_in e (engines_of r.queue)) rows ≡ waits e (table_of_rows rows)

@@ -1,8 +1,8 @@
 -- Reading a table: the new section where one was put, the old one elsewhere; and who waits nowhere.
-use Rattle.std.proofs.Common.{◌≡◌, ℕ, zero, suc, ◌<◌, ◌≤◌, false, ◌⊎◌, List, [], ◌∷◌, length, get_or, set, Some, None, Ok, Err, Option, refl, ap, inl, inr, arith}
+use Rattle.std.proofs.Common.{◌≡◌, ℕ, zero, suc, ◌<◌, false, ◌⊎◌, List, [], ◌∷◌, length, get_or, set, Some, None, Ok, Err, Option, refl, ap, inl, inr, arith}
 use Rattle.sections.specs.declared.Refusal.{Refusal}
 use Rattle.std.proofs.lemmas.Bool.Decides.{nat_tests}
-use Rattle.std.proofs.lemmas.List.{get_or-set_same, get_or-set_other, length-set, set_past, map-set, get_or_past, length-map}
+use Rattle.std.proofs.lemmas.List.{get_or-set_same, get_or-set_other, length-set, set_past, map-set}
 use Rattle.std.proofs.lemmas.Bool.{cases_eq, cases_lt, or_parts, or_from, both_ways, cases_Bool, ltb-true}
 use Rattle.sections.specs.declared.row.Row.{Row}
 use Rattle.sections.specs.Table.{Outcome, Section, Table, idle, is_in, put, refusal_of, place_at, settle, unless, waits}
@@ -38,14 +38,11 @@ pub settle_length : (t : Table) (p : ℕ) (o : Outcome) → length (settle t p o
 settle_length t p (Ok (s, done)) = length-set t p s
 settle_length t p (Err refusal) = refl
 
--- the section that a row stands for; past the last row, one that nobody ever had
+-- the section that a row stands for
 pub section_read : (rows : List Row) (p : ℕ) (d : Row) → p < length rows → place_at (table_of_rows rows) p ≡ section_of (get_or rows p d)
 section_read [] p d h = absurd (omega arith)
 section_read (r ∷ rows) zero d h = refl
 section_read (r ∷ rows) (suc p) d h = section_read rows p d (omega arith)
-
-pub section_past : (rows : List Row) (p : ℕ) → length rows ≤ p → place_at (table_of_rows rows) p ≡ idle
-section_past rows p h = get_or_past (table_of_rows rows) p idle (omega (arith, length-map rows section_of))
 
 pub table_set : (rows : List Row) (p : ℕ) (r : Row) → table_of_rows (set rows p r) ≡ put (table_of_rows rows) p (section_of r)
 table_set rows p r = map-set section_of rows p r

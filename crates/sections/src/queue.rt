@@ -74,6 +74,7 @@ impl Queue {
         requires { engine < 64 }
         ensures { engines_of self.new ≡ without engine (engines_of self.old) }
     {
+        // In a copy: an array that the type speaks of is not lent.
         let mut engines = self.engines;
         self.count = close_up(&mut engines[..self.count], engine);
         self.engines = engines;
