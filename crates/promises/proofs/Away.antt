@@ -14,7 +14,7 @@ use Rattle.journal.specs.declared.output.Output.{Output}
 use Rattle.journal.specs.declared.output.Output.TheVariants as output
 use Rattle.boxes.specs.declared.signal_box.Input.{Input}
 use Rattle.boxes.specs.declared.signal_box.Input.TheVariants as input
-use Rattle.boxes.specs.Emit.{home_of}
+use Rattle.messages.specs.Homes.{home_of}
 use Rattle.boxes.specs.Log.{Log, none}
 use Rattle.boxes.specs.Model.{State}
 use Rattle.boxes.specs.Handle.{delivered_of, received_of}
@@ -49,10 +49,10 @@ is_report (message.Call c) = false
 is_report (message.Answer e n reply.Done h c) = false
 is_report (message.Answer e n reply.Waits h c) = false
 is_report (message.Answer e n (reply.Refused r) h c) = true
-is_report (message.Change s h c) = true
+is_report (message.Change news) = true
 is_report (message.WhichChange e s) = false
-is_report (message.Sign t n b s) = false
-is_report (message.Waits e s n c) = false
+is_report (message.Sign telling) = false
+is_report (message.Waits waiting) = false
 
 abbrev report_bytes : List ℕ → Bool
 report_bytes xs = eqb (get_or xs 0 0) 5 || (eqb (get_or xs 0 0) 4 && eqb (get_or xs 6 0) 0)
@@ -67,30 +67,30 @@ report_bytes_lem (message.Call c) = act_bytes c.act (c.engine.0 ∷ two c.sectio
 report_bytes_lem (message.Answer e n reply.Done h c) = refl
 report_bytes_lem (message.Answer e n reply.Waits h c) = refl
 report_bytes_lem (message.Answer e n (reply.Refused r) h c) = refl
-report_bytes_lem (message.Change s h c) = refl
+report_bytes_lem (message.Change news) = refl
 report_bytes_lem (message.WhichChange e s) = refl
-report_bytes_lem (message.Sign t n b s) = refl
-report_bytes_lem (message.Waits e s n c) = refl
+report_bytes_lem (message.Sign telling) = refl
+report_bytes_lem (message.Waits waiting) = refl
 
 is_report_lem : (m : Message) → IsReport m → is_report m ≡ true
 is_report_lem (message.Call c) i = absurd i
 is_report_lem (message.Answer e n reply.Done h c) i = absurd i
 is_report_lem (message.Answer e n reply.Waits h c) i = absurd i
 is_report_lem (message.Answer e n (reply.Refused r) h c) i = refl
-is_report_lem (message.Change s h c) i = refl
+is_report_lem (message.Change news) i = refl
 is_report_lem (message.WhichChange e s) i = absurd i
-is_report_lem (message.Sign t n b s) i = absurd i
-is_report_lem (message.Waits e s n c) i = absurd i
+is_report_lem (message.Sign telling) i = absurd i
+is_report_lem (message.Waits waiting) i = absurd i
 
 report_is : (m : Message) → is_report m ≡ true → IsReport m
 report_is (message.Call c) q = absurd (both_ways false refl q)
 report_is (message.Answer e n reply.Done h c) q = absurd (both_ways false refl q)
 report_is (message.Answer e n reply.Waits h c) q = absurd (both_ways false refl q)
 report_is (message.Answer e n (reply.Refused r) h c) q = tt
-report_is (message.Change s h c) q = tt
+report_is (message.Change news) q = tt
 report_is (message.WhichChange e s) q = absurd (both_ways false refl q)
-report_is (message.Sign t n b s) q = absurd (both_ways false refl q)
-report_is (message.Waits e s n c) q = absurd (both_ways false refl q)
+report_is (message.Sign telling) q = absurd (both_ways false refl q)
+report_is (message.Waits waiting) q = absurd (both_ways false refl q)
 
 same_report : (m x : Message) → bytes_of m ≡ bytes_of x → IsReport m → IsReport x
 same_report m x q i = report_is x (sym (report_bytes_lem x) ∙ ap report_bytes (sym q) ∙ report_bytes_lem m ∙ is_report_lem m i)
