@@ -1,5 +1,5 @@
 -- The engines of a box, read and changed at one of them. Assumes nothing.
-use Rattle.std.specs.Prelude.{◌≡◌, ℕ, ◌%◌, Bool, true, false, cond, ◌&&◌, replicate, Ok, Err, Result, ◌==◌, nat_lt, slice_index_or, slice_set}
+use Rattle.std.specs.Prelude.{◌≡◌, ℕ, ◌%◌, Bool, true, false, cond, ◌&&◌, replicate, Ok, Err, Result, ◌==◌, nat_lt, slice_index_or, slice_set, None}
 use Rattle.messages.specs.declared.yard.BoxNumber.{BoxNumber}
 use Rattle.messages.specs.declared.yard.Engine.{Engine}
 use Rattle.messages.specs.declared.yard.Section.{Section}
@@ -12,7 +12,6 @@ use Rattle.messages.specs.declared.message.Refusal.TheVariants as refusal
 use Rattle.signs.specs.Table as table
 use Rattle.engine_state.specs.declared.state.Known.TheVariants as known
 use Rattle.engine_state.specs.declared.state.State.{State}
-use Rattle.home.specs.declared.home.Note.TheVariants as note
 use Rattle.home.specs.declared.home.Home.{Home}
 use Rattle.engine_state.specs.State.{blank, unread, made, begun, heard}
 
@@ -24,7 +23,7 @@ fresh_home y b = record {
   signs = table.fresh_of;
   stored = replicate 64 blank;
   known = replicate 64 known.Pending;
-  notes = replicate 64 note.Nothing;
+  notes = replicate 64 None;
 }
 
 -- the home of an engine is the box that its number leaves when divided by the number of boxes
@@ -74,5 +73,5 @@ heard_of h e sign = if_ours h e (λ x. heard x sign)
 abbrev pub apply_of : Home → Record → Home
 apply_of h (journal.Kept c) = h
 apply_of h (journal.Made c) = made_of h c
-apply_of h (journal.Beginning e s change whom count own) = begun_of h e s change whom count own
+apply_of h (journal.Beginning start) = begun_of h start.engine start.section start.change start.holder start.count start.own
 apply_of h (journal.Heard e sign) = heard_of h e sign

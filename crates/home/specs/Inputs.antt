@@ -4,7 +4,7 @@ use Rattle.messages.specs.declared.yard.BoxNumber.{BoxNumber}
 use Rattle.messages.specs.declared.yard.Engine.{Engine}
 use Rattle.messages.specs.declared.yard.Section.{Section}
 use Rattle.messages.specs.declared.message.Call.{Call}
-use Rattle.messages.specs.declared.message.Holder.{Holder}
+use Rattle.messages.specs.Holder.{Holder}
 use Rattle.messages.specs.declared.message.Refusal.{Refusal}
 use Rattle.messages.specs.declared.message.Refusal.TheVariants as refusal
 use Rattle.messages.specs.declared.message.Reply.{Reply}
@@ -15,8 +15,7 @@ use Rattle.engine_state.specs.Places.{same_section}
 use Rattle.engine_state.specs.Calls.{take_call, free_call}
 use Rattle.engine_state.specs.Inputs.{answer_at, change_at, sign_at}
 use Rattle.home.specs.declared.home.Home.{Home}
-use Rattle.home.specs.declared.home.Note.{Note}
-use Rattle.home.specs.declared.home.Note.TheVariants as note
+use Rattle.home.specs.Noted.{Noted}
 use Rattle.home.specs.Home.{is_home, is_ours, at, with, made_of}
 use Rattle.home.specs.Queries.{note_at, holder_of}
 
@@ -25,13 +24,13 @@ abbrev pub has_section : Home → Section → Bool
 has_section h s = nat_lt s.keeper.0 h.yard.boxes && nat_lt s.place 64
 
 -- the home with other notes
-abbrev pub with_notes : Home → List Note → Home
+abbrev pub with_notes : Home → List Noted → Home
 with_notes h xs = record { yard = h.yard; number = h.number; signs = h.signs; stored = h.stored; known = h.known; notes = xs }
 
 -- a note, unless it is for a section
-abbrev pub unless_for : Section → Note → Note
-unless_for s note.Nothing = note.Nothing
-unless_for s (note.Waits t count) = cond (same_section t s) note.Nothing (note.Waits t count)
+abbrev pub unless_for : Section → Noted → Noted
+unless_for s None = None
+unless_for s (Some seen) = cond (same_section seen.section s) None (Some seen)
 
 -- the call that a take makes: of one of ours, of a section of the yard
 abbrev pub taking : Home → Engine → Section → Result Call Refusal
@@ -76,16 +75,16 @@ sign_of h from e count by sign =
     cond (is_home h.yard from by) (at_ours h e (λ x. sign_at x e count by sign)) (h, event.Refused refusal.Malformed)
 
 -- a later beginning is noted
-abbrev pub is_older : ℕ → Note → Bool
-is_older count note.Nothing = false
-is_older count (note.Waits s n) = nat_lt count n
+abbrev pub is_older : ℕ → Noted → Bool
+is_older count None = false
+is_older count (Some seen) = nat_lt count seen.count
 
 -- a waiter for what one of ours holds is noted, and told the sign that this one shows
 abbrev pub noted : Home → Engine → Section → ℕ → Engine → Home × Event
 noted h e s count by =
     cond (nat_le 64 e.0 || is_older count (note_at h e)) (h, event.PassedOver)
     (cond (is_ours h by)
-    (with_notes h (slice_set h.notes e.0 (note.Waits s count)), event.Noted e count by (at h by).signs.shown)
+    (with_notes h (slice_set h.notes e.0 (Some (record { section = s; count = count }))), event.Noted (record { to = e; count = count; by = by; sign = (at h by).signs.shown }))
     (h, event.PassedOver))
 
 abbrev pub noted_for : Home → Engine → Section → ℕ → Option Engine → Home × Event

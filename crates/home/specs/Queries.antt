@@ -7,8 +7,7 @@ use Rattle.signs.specs.declared.Engine as signs
 use Rattle.engine_state.specs.declared.state.Wait.{Wait}
 use Rattle.engine_state.specs.Calls.{open_of, wait_of, holds_of, giving_back}
 use Rattle.home.specs.declared.home.Home.{Home}
-use Rattle.home.specs.declared.home.Note.{Note}
-use Rattle.home.specs.declared.home.Note.TheVariants as note
+use Rattle.home.specs.Noted.{Noted}
 use Rattle.home.specs.Home.{is_ours, at}
 
 -- the call of an engine of ours that is open
@@ -30,8 +29,8 @@ abbrev pub signs_at : Home → Engine → Option signs.Engine
 signs_at h e = cond (is_ours h e) (Some (at h e).signs) None
 
 -- what is noted of an engine of the yard
-abbrev pub note_at : Home → Engine → Note
-note_at h e = cond (nat_lt e.0 64) (slice_index_or h.notes e.0 note.Nothing) note.Nothing
+abbrev pub note_at : Home → Engine → Noted
+note_at h e = cond (nat_lt e.0 64) (slice_index_or h.notes e.0 None) None
 
 -- the engine of a number
 abbrev pub engine : ℕ → Engine

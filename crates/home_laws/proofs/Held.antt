@@ -1,4 +1,5 @@
 -- A free clears the section's bit; and the lowest holder found is one that holds.
+use Rattle.std.specs.Prelude.{None, Some}
 use Rattle.std.proofs.Common.{◌≡◌, ℕ, zero, suc, Bool, true, false, cond, not, ◌||◌, ltb, leb, length, set, Some, None, Option, sym, refl, ap, ◌∙◌, subst, arith, length-set, get_or-set_same}
 use Rattle.std.proofs.lemmas.Bool.{ltb-true, and_parts}
 use Rattle.messages.specs.declared.yard.Engine.{Engine}
@@ -13,7 +14,6 @@ use Rattle.engine_state.specs.declared.state.Event.TheVariants as event
 use Rattle.engine_state.specs.Places.{fits, same_section, bit, marked, word_of, has_of, with_word, with_of, without_of}
 use Rattle.engine_state.specs.State.{wanted, got_by, got_wanted, freed_by}
 use Rattle.home.specs.declared.home.Home.{Home}
-use Rattle.home.specs.declared.home.Note.TheVariants as note
 use Rattle.home.specs.Home.{is_ours, at}
 use Rattle.home.specs.Queries.{holds_at, engine, or_else, lowest_below, holder_of, note_at}
 use Rattle.home.specs.Inputs.{has_section, with_notes, is_older, noted_for}
@@ -78,7 +78,7 @@ lowest_passes f (suc n) e is = lowest_step f n e (lowest_below f n) (lowest_pass
 
 -- what is told is of by, which holds the section
 abbrev Rightly : Home → Section → Home × Event → Type 0
-Rightly h s p = (to : Engine) (n : ℕ) (by : Engine) (sign : ℕ) → p.1 ≡ event.Noted to n by sign → (holds_at h by s ≡ true) × (sign ≡ (at h by).signs.shown)
+Rightly h s p = (to : Engine) (n : ℕ) (by : Engine) (sign : ℕ) → p.1 ≡ event.Noted (record { to = to; count = n; by = by; sign = sign }) → (holds_at h by s ≡ true) × (sign ≡ (at h by).signs.shown)
 
 rightly_either : (h : Home) (s : Section) (t : Bool) (p q : Home × Event) → Rightly h s p → Rightly h s q → Rightly h s (cond t p q)
 rightly_either h s true p q a b = a
@@ -87,7 +87,7 @@ rightly_either h s false p q a b = b
 silent : (h : Home) (s : Section) (g : Home) → Rightly h s (g, event.PassedOver)
 silent h s g to n by sign q = let z : ◌≡◌ {A = ℕ} 0 1 = cc in absurd (omega arith)
 
-told : (h : Home) (s : Section) (g : Home) (e : Engine) (count : ℕ) (by : Engine) → holds_at h by s ≡ true → Rightly h s (g, event.Noted e count by (at h by).signs.shown)
+told : (h : Home) (s : Section) (g : Home) (e : Engine) (count : ℕ) (by : Engine) → holds_at h by s ≡ true → Rightly h s (g, event.Noted (record { to = e; count = count; by = by; sign = (at h by).signs.shown }))
 told h s g e count by holds to n by' sign q =
     let same : by ≡ by' = cc in
     let shown : (at h by).signs.shown ≡ sign = cc in
@@ -97,10 +97,10 @@ noted_rightly : (h : Home) (e : Engine) (s : Section) (count : ℕ) (o : Option 
 noted_rightly h e s count None is = silent h s h
 noted_rightly h e s count (Some by) is =
     rightly_either h s (leb 64 e.0 || is_older count (note_at h e)) (h, event.PassedOver)
-    (cond (is_ours h by) (with_notes h (set h.notes e.0 (note.Waits s count)), event.Noted e count by (at h by).signs.shown) (h, event.PassedOver))
+    (cond (is_ours h by) (with_notes h (set h.notes e.0 (Some (record { section = s; count = count }))), event.Noted (record { to = e; count = count; by = by; sign = (at h by).signs.shown })) (h, event.PassedOver))
     (silent h s h)
-    (rightly_either h s (is_ours h by) (with_notes h (set h.notes e.0 (note.Waits s count)), event.Noted e count by (at h by).signs.shown) (h, event.PassedOver)
-    (told h s (with_notes h (set h.notes e.0 (note.Waits s count))) e count by (lowest_passes (λ (x : Engine). holds_at h x s) 64 by is))
+    (rightly_either h s (is_ours h by) (with_notes h (set h.notes e.0 (Some (record { section = s; count = count }))), event.Noted (record { to = e; count = count; by = by; sign = (at h by).signs.shown })) (h, event.PassedOver)
+    (told h s (with_notes h (set h.notes e.0 (Some (record { section = s; count = count })))) e count by (lowest_passes (λ (x : Engine). holds_at h x s) 64 by is))
     (silent h s h))
 
 pub told_of_what_is_held : ToldOfWhatIsHeld

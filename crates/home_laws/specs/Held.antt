@@ -20,5 +20,5 @@ FreedIsNotHeld = (x : State) (c : Call) → length x.stored.kept.words ≡ 16 �
 -- a waiter is told only of one that holds what it waits for, and the sign that this one shows
 abbrev pub ToldOfWhatIsHeld : Type 0
 ToldOfWhatIsHeld =
-    (h : Home) (e : Engine) (s : Section) (count : ℕ) (to : Engine) (n : ℕ) (by : Engine) (sign : ℕ) → (waits_of h e s count).1 ≡ event.Noted to n by sign →
+    (h : Home) (e : Engine) (s : Section) (count : ℕ) (to : Engine) (n : ℕ) (by : Engine) (sign : ℕ) → (waits_of h e s count).1 ≡ event.Noted (record { to = to; count = n; by = by; sign = sign }) →
     (holds_at h by s ≡ true) × (sign ≡ (at h by).signs.shown)

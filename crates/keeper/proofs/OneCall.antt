@@ -1,4 +1,5 @@
 -- What every call keeps to, by cases of its number and of what the sections answer.
+use Rattle.std.specs.Prelude.{None, Some}
 use Rattle.std.proofs.Common.{◌≡◌, ℕ, ◌+◌, ◌<◌, true, false, cond, eqb, ltb, ◌⊎◌, List, length, get_or, set, Some, None, Ok, Err, Option, Result, sym, refl, ap, ◌∙◌, inl, inr, arith}
 use Rattle.std.proofs.lemmas.List.{get_or-set_same, get_or-set_other, length-map, set-get_or}
 use Rattle.std.proofs.lemmas.Bool.{and_parts, cases_Bool, cases_eq, cond_both, eq-eqb, eqb-false, eqb-true, ltb-true, ne_eqb}
@@ -7,13 +8,12 @@ use Rattle.messages.specs.declared.message.Act.TheVariants as act
 use Rattle.messages.specs.declared.message.Call.{Call}
 use Rattle.sections.specs.declared.Done.{Done}
 use Rattle.sections.specs.declared.Done.TheVariants as did
-use Rattle.sections.specs.declared.Holder.{Holder}
-use Rattle.sections.specs.declared.Holder.TheVariants as has
+use Rattle.sections.specs.Table.{Holder}
 use Rattle.sections.specs.declared.Refusal.{Refusal}
 use Rattle.sections.specs.declared.Refusal.TheVariants as refused
 use Rattle.sections.specs.Table.{Outcome, Section, Table, changeable, free_by, free_outcome, give_up_outcome, holder_at, idle, is_in, known, refusal_of, place_at, settle, take_by, take_outcome, unless}
 use Rattle.sections.specs.Layout.{section_of}
-use Rattle.keeper.specs.declared.Answer.{Answer}
+use Rattle.messages.specs.declared.message.Answer.{Answer}
 use Rattle.keeper.specs.declared.LastCall.{LastCall}
 use Rattle.keeper.specs.declared.Verdict.{Verdict}
 use Rattle.keeper.specs.declared.Verdict.TheVariants as verdict
@@ -74,12 +74,12 @@ LetGoTo (Ok (s, did.Left)) = Unit {0}
 LetGoTo (Err r) = Unit {0}
 
 take_names : (h : Holder) (s : Section) (e : ℕ) → LetGoTo (take_by h s e)
-take_names has.Free s e = cond_both (changeable s) _ _ LetGoTo (λ _. tt) (λ _. tt)
-take_names (has.Engine x) s e = cond_both (eqb x e) _ _ LetGoTo (λ _. tt) (λ _. tt)
+take_names None s e = cond_both (changeable s) _ _ LetGoTo (λ _. tt) (λ _. tt)
+take_names (Some x) s e = cond_both (eqb x e) _ _ LetGoTo (λ _. tt) (λ _. tt)
 
 free_names : (h : Holder) (s : Section) (e : ℕ) → LetGoTo (free_by h s e)
-free_names has.Free s e = tt
-free_names (has.Engine x) s e = cond_both (eqb x e) _ _ LetGoTo (λ _. cond_both (changeable s) _ _ LetGoTo (λ _. refl) (λ _. tt)) (λ _. tt)
+free_names None s e = tt
+free_names (Some x) s e = cond_both (eqb x e) _ _ LetGoTo (λ _. cond_both (changeable s) _ _ LetGoTo (λ _. refl) (λ _. tt)) (λ _. tt)
 
 unless_names : (r : Option Refusal) (o : Outcome) → LetGoTo o → LetGoTo (unless r o)
 unless_names (Some r) o h = tt
@@ -137,8 +137,8 @@ module _ (k : State) (whole : length k.calls ≡ 64) (long : length k.table ≡ 
       ruled : (c.engine.0 < 64) × (c.section.place < 64) → IsNext k c → (t : Table) (r : Result Done Refusal) → ask_of k.table c ≡ (t, r) → Followed k c (ruled_of k c (t, r)).0 (ruled_of k c (t, r)).1
       ruled h n t (Ok did.Had) q = (n, (did.Had, q, refl), used_up h.0 _, (refl, refl))
       ruled h n t (Ok (did.Waits x)) q = (n, (did.Waits x, q, refl), used_up h.0 _, (refl, refl))
-      ruled h n t (Ok (did.LetGo has.Free)) q = (n, (did.LetGo has.Free, q, refl), used_up h.0 _, (refl, refl))
-      ruled h n t (Ok (did.LetGo (has.Engine x))) q = ((n, (did.LetGo (has.Engine x), q, refl), used_up h.0 _, (refl, refl)), (x, ap holder_of (do_names c.act k.table c.engine.0 c.section.place t (has.Engine x) (omega arith) q)))
+      ruled h n t (Ok (did.LetGo None)) q = (n, (did.LetGo None, q, refl), used_up h.0 _, (refl, refl))
+      ruled h n t (Ok (did.LetGo (Some x))) q = ((n, (did.LetGo (Some x), q, refl), used_up h.0 _, (refl, refl)), (x, ap holder_of (do_names c.act k.table c.engine.0 c.section.place t (Some x) (omega arith) q)))
       ruled h n t (Ok did.Left) q = (n, (did.Left, q, refl), used_up h.0 _, (refl, refl))
       ruled h n t (Err refused.OutOfRange) q = unchanged t (do_err c.act k.table c.engine.0 c.section.place t refused.OutOfRange q)
       ruled h n t (Err refused.Waiting) q = (do_err c.act k.table c.engine.0 c.section.place t refused.Waiting q, n, refl, used_up h.0 _, (refl, refl))

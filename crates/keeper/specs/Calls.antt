@@ -6,7 +6,7 @@ use Rattle.messages.specs.declared.message.Call.{Call}
 use Rattle.sections.specs.declared.Done.{Done}
 use Rattle.sections.specs.declared.Refusal.{Refusal}
 use Rattle.sections.specs.Table.{Table, change_number_at, free_of, give_up_of, holder_at, known, take_of}
-use Rattle.keeper.specs.declared.Answer.{Answer}
+use Rattle.messages.specs.declared.message.Answer.{Answer}
 use Rattle.keeper.specs.declared.LastCall.{LastCall}
 use Rattle.keeper.specs.declared.Verdict.{Verdict}
 use Rattle.keeper.specs.declared.Verdict.TheVariants as verdict

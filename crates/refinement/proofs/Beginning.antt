@@ -81,7 +81,7 @@ module _ {y : sizes.Yard} {last : ℕ → LastCall} {x : State} {z : model.Yard}
   -- it begins, with any higher sign of its own
   begin_by :
       (s : Section) (m : ℕ) (j u : ℕ) → MayBegin y last x z e s m j → j < y.engines → x.signs.shown < u → u % y.engines ≡ e →
-      OwnStep y last z e x (begun x s m (engine j) (x.signs.count + 1) u, event.Began (engine e) s m (engine j) (x.signs.count + 1) u)
+      OwnStep y last z e x (begun x s m (engine j) (x.signs.count + 1) u, event.Began (record { engine = engine e; section = s; change = m; holder = engine j; count = x.signs.count + 1; own = u }))
   begin_by s m j u g r above leaves =
       record {
         acts = begins e (number_of s) j m u ∷ [];
