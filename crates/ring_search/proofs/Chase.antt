@@ -1,7 +1,7 @@
 -- One engine further along the chase.
 -- Assumes nothing.
 use Rattle.std.proofs.Common.{◌≡◌, ℕ, zero, suc, ◌+◌, ◌-◌, ◌<◌, List, [], ◌∷◌, ◌++◌, Some, None, Option, sym, refl, ap, ◌∙◌, add-one, arith}
-use Rattle.signs.specs.declared.Wait.{Wait}
+use Rattle.signs.specs.Signs.{Wait}
 use Rattle.ring_search.specs.declared.Next.TheVariants.{Out, Back, On}
 use Rattle.ring_search.specs.Search.{Judged, after_of, follow, chase, more, ring_at, rings_below}
 

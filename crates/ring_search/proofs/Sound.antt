@@ -3,8 +3,7 @@
 use Rattle.std.proofs.Common.{◌≡◌, ℕ, zero, suc, ◌-◌, ◌<◌, ◌≤◌, cond, eqb, ltb, ◌⊎◌, List, [], ◌∷◌, ◌++◌, length, Some, None, Option, sym, refl, ap, ◌∙◌, inl, inr, append_assoc, arith}
 use mathlib.Core.List.{Memᴰ}
 use Rattle.std.proofs.lemmas.Bool.{cases_lt, cond_both, cond-true, cond-false, eq-eqb, ne_eqb, le-ltb, eqb-true, eqb-false, ltb-true, ltb-false}
-use Rattle.signs.specs.declared.Wait.{Wait}
-use Rattle.signs.specs.declared.Wait.TheVariants.{Nobody, For}
+use Rattle.signs.specs.Signs.{Wait}
 use Rattle.ring_search.specs.declared.Next.{Next}
 use Rattle.ring_search.specs.declared.Next.TheVariants.{Out, Back, On}
 use Rattle.ring_search.specs.Search.{Judged, after_of, follow, chase, best_of, judged, ring_at}
@@ -12,32 +11,32 @@ use Rattle.ring_search.specs.Exactly.{Links, HasHighest}
 use Rattle.ring_search.proofs.Chase.{chase_back, chase_next}
 
 -- where the search goes on, by the wait
-after_back : (v : Wait) (f : ℕ) → after_of v f ≡ Back → v ≡ For f
-after_back Nobody f = λ q. let z : ◌≡◌ {A = ℕ} 0 1 = cc in absurd (omega arith)
-after_back (For y) f =
-    cond_both (eqb y f) Back (cond (ltb y f) Out (On y)) (λ (x : Next). x ≡ Back → For y ≡ For f)
-    (λ t q. ap For (eqb-true y f t))
+after_back : (v : Wait) (f : ℕ) → after_of v f ≡ Back → v ≡ Some f
+after_back None f = λ q. let z : ◌≡◌ {A = ℕ} 0 1 = cc in absurd (omega arith)
+after_back (Some y) f =
+    cond_both (eqb y f) Back (cond (ltb y f) Out (On y)) (λ (x : Next). x ≡ Back → Some y ≡ Some f)
+    (λ t q. ap Some (eqb-true y f t))
     (λ t.
-    cond_both (ltb y f) Out (On y) (λ (x : Next). x ≡ Back → For y ≡ For f)
+    cond_both (ltb y f) Out (On y) (λ (x : Next). x ≡ Back → Some y ≡ Some f)
     (λ s q. let z : ◌≡◌ {A = ℕ} 0 1 = cc in absurd (omega arith))
     (λ s q. let z : ◌≡◌ {A = ℕ} 0 1 = cc in absurd (omega arith)))
 
-after_on : (v : Wait) (f y : ℕ) → after_of v f ≡ On y → (v ≡ For y) × (f < y)
-after_on Nobody f y = λ q. let z : ◌≡◌ {A = ℕ} 0 1 = cc in absurd (omega arith)
-after_on (For x) f y =
-    cond_both (eqb x f) Back (cond (ltb x f) Out (On x)) (λ (n : Next). n ≡ On y → (For x ≡ For y) × (f < y))
+after_on : (v : Wait) (f y : ℕ) → after_of v f ≡ On y → (v ≡ Some y) × (f < y)
+after_on None f y = λ q. let z : ◌≡◌ {A = ℕ} 0 1 = cc in absurd (omega arith)
+after_on (Some x) f y =
+    cond_both (eqb x f) Back (cond (ltb x f) Out (On x)) (λ (n : Next). n ≡ On y → (Some x ≡ Some y) × (f < y))
     (λ t q. let z : ◌≡◌ {A = ℕ} 0 1 = cc in absurd (omega arith))
     (λ t.
-    cond_both (ltb x f) Out (On x) (λ (n : Next). n ≡ On y → (For x ≡ For y) × (f < y))
+    cond_both (ltb x f) Out (On x) (λ (n : Next). n ≡ On y → (Some x ≡ Some y) × (f < y))
     (λ s q. let z : ◌≡◌ {A = ℕ} 0 1 = cc in absurd (omega arith))
     (λ s q.
     let same : x ≡ y = cc in
-    (ap For same, elim (cases_lt f y) [ inl k ↦ k | inr k ↦ absurd (eqb-false x f t (omega (arith, ltb-false x f s))) ])))
+    (ap Some same, elim (cases_lt f y) [ inl k ↦ k | inr k ↦ absurd (eqb-false x f t (omega (arith, ltb-false x f s))) ])))
 
-back_after : (v : Wait) (f : ℕ) → v ≡ For f → Back ≡ after_of v f
+back_after : (v : Wait) (f : ℕ) → v ≡ Some f → Back ≡ after_of v f
 back_after v f q = rw q (sym (cond-true (eqb f f) Back (cond (ltb f f) Out (On f)) (eq-eqb f f refl)))
 
-on_after : (v : Wait) (f y : ℕ) → v ≡ For y → f < y → On y ≡ after_of v f
+on_after : (v : Wait) (f y : ℕ) → v ≡ Some y → f < y → On y ≡ after_of v f
 on_after v f y q h =
     rw q
     (sym

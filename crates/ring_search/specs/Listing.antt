@@ -1,8 +1,7 @@
 -- A list of who waits for whom, line by line.
 -- Assumes nothing.
-use Rattle.std.specs.Prelude.{ℕ, Bool, true, false, cond, ◌&&◌, replicate, Ok, Err, Result, nat_lt, slice_index_or, slice_set}
-use Rattle.signs.specs.declared.Wait.{Wait}
-use Rattle.signs.specs.declared.Wait.TheVariants.{Nobody, For}
+use Rattle.std.specs.Prelude.{ℕ, Bool, true, false, cond, ◌&&◌, replicate, Ok, Err, Result, nat_lt, slice_index_or, slice_set, None, Some}
+use Rattle.signs.specs.Signs.{Wait}
 use Rattle.signs.specs.Table.{fresh_of, with}
 use Rattle.ring_search.specs.declared.listing.Entry.{Entry}
 use Rattle.ring_search.specs.declared.listing.Line.{Line}
@@ -15,8 +14,8 @@ empty_of = record { engines = fresh_of; lines = replicate 64 Missing }
 
 -- it waits for nobody, or for an engine that a yard may have
 abbrev pub known_of : Wait → Bool
-known_of Nobody = true
-known_of (For whom) = nat_lt whom 64
+known_of None = true
+known_of (Some whom) = nat_lt whom 64
 
 -- an engine has no line yet
 abbrev pub is_missing : Line → Bool

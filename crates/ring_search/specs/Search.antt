@@ -1,8 +1,7 @@
 -- The search for rings of waits: along waits from each engine, until it comes back.
 -- Assumes nothing.
 use Rattle.std.specs.Prelude.{ℕ, zero, suc, cond, List, [], ◌∷◌, ◌++◌, Some, None, vec_items, Option, ◌==◌, nat_lt}
-use Rattle.signs.specs.declared.Wait.{Wait}
-use Rattle.signs.specs.declared.Wait.TheVariants.{Nobody, For}
+use Rattle.signs.specs.Signs.{Wait}
 use Rattle.signs.specs.declared.table.Engines.{Engines}
 use Rattle.signs.specs.Table.{engine_at}
 use Rattle.ring_search.specs.declared.Ring.{Ring}
@@ -11,7 +10,7 @@ use Rattle.ring_search.specs.declared.Next.TheVariants.{Out, Back, On}
 
 -- for whom an engine of the table waits
 abbrev pub wait_of : Engines → ℕ → Wait
-wait_of t e = cond (nat_lt e 64) (engine_at t e).wait Nobody
+wait_of t e = cond (nat_lt e 64) (engine_at t e).wait None
 
 -- the own sign of an engine of the table
 abbrev pub own_of : Engines → ℕ → ℕ
@@ -19,8 +18,8 @@ own_of t e = cond (nat_lt e 64) (engine_at t e).own 0
 
 -- on from an engine by its wait: the waits end or come to one lower than the first, come back to the first, or go on
 abbrev pub after_of : Wait → ℕ → Next
-after_of Nobody first = Out
-after_of (For next) first = cond (next == first) Back (cond (nat_lt next first) Out (On next))
+after_of None first = Out
+after_of (Some next) first = cond (next == first) Back (cond (nat_lt next first) Out (On next))
 
 -- what a search finds that has passed some engines, by where it goes on
 abbrev pub follow : List ℕ → (ℕ → Option (List ℕ)) → Next → Option (List ℕ)

@@ -6,7 +6,6 @@ ghost use Rattle.std.specs.Option.{option_map};
 ghost use Rattle.ring_search.specs.Exactly.{Exactly};
 ghost use Rattle.ring_search.specs.Search.{wait_of, own_of, after_of, chase, higher_of, best_of, ring_at, more, rings_below, model};
 
-use signs::Wait;
 use signs::table::{ENGINES, Engines};
 use std::alloc::{AllocError, Global};
 
@@ -19,12 +18,12 @@ pub struct Ring {
     pub finder: u8,
 }
 
-fn wait_of(table: &Engines, e: u8) -> Wait
+fn wait_of(table: &Engines, e: u8) -> Option<u8>
     ensures { result ≡ wait_of table.now e }
 {
     match table.get(e) {
         Ok(engine) => engine.wait,
-        Err(_) => Wait::Nobody,
+        Err(_) => None,
     }
 }
 
@@ -51,8 +50,8 @@ fn after(table: &Engines, first: u8, at: u8) -> Next
     ensures { result ≡ after_of (wait_of table.now at) first }
 {
     match wait_of(table, at) {
-        Wait::Nobody => Next::Out,
-        Wait::For(next) => {
+        None => Next::Out,
+        Some(next) => {
             if next == first {
                 Next::Back
             } else if next < first {

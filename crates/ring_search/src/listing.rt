@@ -2,14 +2,14 @@
 ghost use Rattle.std.specs.Prelude.{◌≡◌, IfErr};
 ghost use Rattle.ring_search.specs.Listing.{empty_of, known_of, add_of};
 
+use signs::Engine;
 use signs::table::{ENGINES, Engines};
-use signs::{Engine, Wait};
 
 // A line's words.
 #[derive(Clone, Copy)]
 pub struct Entry {
     pub engine: u8,
-    pub wait: Wait,
+    pub wait: Option<u8>,
     pub shown: u64,
     pub own: u64,
 }
@@ -28,12 +28,12 @@ pub struct Listing {
     lines: [Line; 64],
 }
 
-fn known(wait: Wait) -> bool
+fn known(wait: Option<u8>) -> bool
     ensures { result ≡ known_of wait }
 {
     match wait {
-        Wait::Nobody => true,
-        Wait::For(whom) => whom < ENGINES,
+        None => true,
+        Some(whom) => whom < ENGINES,
     }
 }
 
@@ -96,11 +96,11 @@ fn engine_number(text: &str) -> Option<u8> {
     text.parse::<u8>().ok()
 }
 
-fn read_wait(text: &str) -> Option<Wait> {
+fn read_wait(text: &str) -> Option<Option<u8>> {
     if text == "-" {
-        return Some(Wait::Nobody);
+        return Some(None);
     }
-    Some(Wait::For(engine_number(text)?))
+    Some(Some(engine_number(text)?))
 }
 
 // The four words of a line, one blank between them.
