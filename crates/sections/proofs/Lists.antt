@@ -1,6 +1,5 @@
 -- Queues as lists: who is in one that somebody joined or left, and that a queue of engines is never longer than 64.
-use Rattle.std.proofs.Common.{◌≡◌, ℕ, zero, suc, ◌+◌, ◌<◌, ◌≤◌, true, false, not, ◌&&◌, ◌||◌, eqb, List, [], ◌∷◌, ◌++◌, length, get_or, take, sym, refl, ap, ◌∙◌, arith}
-use Rattle.sections.specs.declared.Holder.TheVariants.{Engine}
+use Rattle.std.proofs.Common.{◌≡◌, ℕ, zero, suc, ◌+◌, ◌<◌, ◌≤◌, true, false, not, ◌&&◌, ◌||◌, eqb, List, [], ◌∷◌, ◌++◌, Some, length, get_or, take, sym, refl, ap, ◌∙◌, arith}
 use Rattle.std.proofs.lemmas.Bool.Decides.{nat_tests}
 use Rattle.sections.specs.Table.{first_of, is_in, rest_of, without}
 use Rattle.sections.specs.Sound.{once}
@@ -49,7 +48,7 @@ module _ (n : ℕ) (xs : List ℕ) (some : n ≡ 0 → ⊥) (room : 0 < length x
   front (suc m) [] h l = absurd (omega arith)
   front (suc m) (y ∷ ys) h l = refl
 
-  pub front_first : Engine (get_or xs 0 0) ≡ first_of (take n xs)
+  pub front_first : Some (get_or xs 0 0) ≡ first_of (take n xs)
   front_first = sym (ap first_of (front n xs some room))
 
   pub front_is_in : is_in (get_or xs 0 0) (take n xs) ≡ true

@@ -3,7 +3,6 @@ use Rattle.std.proofs.Common.{◌≡◌, ℕ, ◌^◌, ◌<◌, true, false, not
 use native.Mathlib.Nat.{zero-div}
 use Rattle.std.proofs.lemmas.List.{get_or-replicate, get_or_past, length-map, length-take-le}
 use Rattle.std.proofs.lemmas.Bool.{and_from, cases_lt, eqb-true, lt-ltb, or_cases}
-use Rattle.sections.specs.declared.Holder.TheVariants.{Free}
 use Rattle.sections.specs.declared.Done.{Done}
 use Rattle.sections.specs.declared.Refusal.{Refusal}
 use Rattle.sections.specs.declared.Sections.{Sections}
@@ -71,7 +70,7 @@ pub holds_none : (e : ℕ) → holds 0 e ≡ false
 holds_none e = rw (zero-div (2 ^ e)) refl
 
 -- rows of sections that nobody has and nobody waits for
-pub owed_empty : (r : Row) → r.holder ≡ Free → engines_of r.queue ≡ [] → Matches r.queue → Fits r.queue → Owed (replicate 64 r)
+pub owed_empty : (r : Row) → r.holder ≡ None → engines_of r.queue ≡ [] → Matches r.queue → Fits r.queue → Owed (replicate 64 r)
 owed_empty r free none m f =
     owed (replicate 64 r) refl
     (at (λ y. Matches y.queue) m (λ e h. holds_none e))

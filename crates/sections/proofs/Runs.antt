@@ -1,9 +1,7 @@
 -- Over every list of calls: the table stays sound, and each promise is a part of that, or of one call's fairness.
-use Rattle.std.proofs.Common.{◌≡◌, ℕ, List, [], ◌∷◌, refl, inl, inr}
+use Rattle.std.proofs.Common.{◌≡◌, ℕ, List, [], ◌∷◌, Some, None, refl, inl, inr}
 use Rattle.std.proofs.lemmas.Bool.{cases_eq}
-use Rattle.sections.specs.declared.Holder.{Holder}
-use Rattle.sections.specs.declared.Holder.TheVariants.{Free, Engine}
-use Rattle.sections.specs.Table.{Table, free_outcome, give_up_outcome, holder_at, take_outcome}
+use Rattle.sections.specs.Table.{Holder, Table, free_outcome, give_up_outcome, holder_at, take_outcome}
 use Rattle.sections.specs.Promise.{Call, AlwaysFirstServed, FirstServed, InTurn, AlwaysNobodyItsOwn, NobodyOvertakes, AlwaysNobodyTwice, OneHolder, AlwaysOneQueue, AlwaysSomebodyHas, after, frees, gives_up, next, takes}
 use Rattle.sections.proofs.Sound.{Sound, empty_sound, free_keeps, give_up_keeps, same_engine, settled, take_keeps}
 use Rattle.sections.proofs.Turns.{first_served, free_fair, give_up_fair, in_turn, take_fair}
@@ -32,9 +30,9 @@ one_queue calls engine p q w v = elim (cases_eq p q) [ inl h ↦ h | inr n ↦ a
 pub somebody_has : AlwaysSomebodyHas
 somebody_has calls engine place w = by (holder_at (after calls) place) refl
   where
-    by : (h : Holder) → holder_at (after calls) place ≡ h → (holder : ℕ) × (holder_at (after calls) place ≡ Engine holder)
-    by Free h = absurd (((reached_sound calls).order place).had engine w h)
-    by (Engine holder) h = (holder, h)
+    by : (h : Holder) → holder_at (after calls) place ≡ h → (holder : ℕ) × (holder_at (after calls) place ≡ Some holder)
+    by None h = absurd (((reached_sound calls).order place).had engine w h)
+    by (Some holder) h = (holder, h)
 
 call_in_turn : (t : Table) (call : Call) → InTurn t (next t call)
 call_in_turn t (takes e p) = in_turn t p (take_outcome t e p) (take_fair t e p)

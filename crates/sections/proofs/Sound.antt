@@ -1,10 +1,8 @@
 -- Every call keeps the queues in order: one lemma on putting a section, and one on what each call makes of a section.
-use Rattle.std.proofs.Common.{◌≡◌, ℕ, ◌+◌, ◌<◌, Bool, true, false, not, eqb, ◌⊎◌, List, [], ◌∷◌, ◌++◌, replicate, Ok, Err, sym, refl, ap, ◌∙◌, inl, inr, arith}
+use Rattle.std.proofs.Common.{◌≡◌, ℕ, ◌+◌, ◌<◌, Bool, true, false, not, eqb, ◌⊎◌, List, [], ◌∷◌, ◌++◌, replicate, Some, None, Ok, Err, sym, refl, ap, ◌∙◌, inl, inr, arith}
 use Rattle.std.proofs.lemmas.List.{get_or-replicate, get_or_past}
 use Rattle.std.proofs.lemmas.Bool.{both_ways, cond_both, cases_lt, eqb-false, eqb-true, eq-eqb, and_parts, or_cases, or_left, or_right, not-true as bool-not-true}
-use Rattle.sections.specs.declared.Holder.{Holder}
-use Rattle.sections.specs.declared.Holder.TheVariants.{Free, Engine}
-use Rattle.sections.specs.Table.{Outcome, Section, Table, changeable, empty, first_of, free_by, free_outcome, free_section, give_up_outcome, idle, is_in, known, pass_on, put, queue_at, rest_of, place_at, settle, take_by, take_outcome, take_section, without}
+use Rattle.sections.specs.Table.{Holder, Outcome, Section, Table, changeable, empty, first_of, free_by, free_outcome, free_section, give_up_outcome, idle, is_in, known, pass_on, put, queue_at, rest_of, place_at, settle, take_by, take_outcome, take_section, without}
 use Rattle.sections.specs.Sound.{FewNew, InOrder, Keeps, OneQueue, WaitsAt, once}
 use Rattle.sections.proofs.Lists.{is_in_push, is_in_without, once_push, once_without}
 use Rattle.sections.proofs.Tables.{put_read, unless_either, waits_nowhere}
@@ -63,25 +61,25 @@ rest_in : (y : ℕ) (q : List ℕ) → is_in y (rest_of q) ≡ true → is_in y 
 rest_in y [] w = w
 rest_in y (x ∷ xs) w = or_right (eqb x y) (is_in y xs) w
 
-pub same_engine : (h : Holder) (e f : ℕ) → h ≡ Engine e → h ≡ Engine f → e ≡ f
+pub same_engine : (h : Holder) (e f : ℕ) → h ≡ Some e → h ≡ Some f → e ≡ f
 same_engine h e f p q = cc
 
-pub not_both : (h : Holder) (e : ℕ) → h ≡ Engine e → h ≡ Free → ⊥
+pub not_both : (h : Holder) (e : ℕ) → h ≡ Some e → h ≡ None → ⊥
 not_both h e p q = let z : ◌≡◌ {A = ℕ} 0 1 = cc in omega arith
 
 -- a free section is had
-taken_order : (s : Section) (e : ℕ) → InOrder s → e < 64 → s.has ≡ Free → InOrder (record { has = Engine e; queue = s.queue; change = s.change + 1 })
+taken_order : (s : Section) (e : ℕ) → InOrder s → e < 64 → s.has ≡ None → InOrder (record { has = Some e; queue = s.queue; change = s.change + 1 })
 taken_order s e i known h =
     record {
       twice = i.twice;
       others = λ y w k. i.had y w h;
       had = λ y w k. i.had y w h;
       waiters = i.waiters;
-      holders = λ y k. rw (same_engine (Engine y) y e refl (sym k)) known;
+      holders = λ y k. rw (same_engine (Some y) y e refl (sym k)) known;
     }
 
 -- a section that another has is waited for
-joined_order : (s : Section) (e f : ℕ) → InOrder s → e < 64 → is_in e s.queue ≡ false → s.has ≡ Engine f → (f ≡ e → ⊥) → InOrder (record { has = s.has; queue = s.queue ++ e ∷ []; change = s.change })
+joined_order : (s : Section) (e f : ℕ) → InOrder s → e < 64 → is_in e s.queue ≡ false → s.has ≡ Some f → (f ≡ e → ⊥) → InOrder (record { has = s.has; queue = s.queue ++ e ∷ []; change = s.change })
 joined_order s e f i known out h n =
     record {
       twice = once_push e s.queue i.twice out;
@@ -102,17 +100,17 @@ passed_order s i = go s.queue refl
           others = λ y w k. both_ways false refl w;
           had = λ y w k. both_ways false refl w;
           waiters = λ y w. absurd (both_ways false refl w);
-          holders = λ y k. absurd (not_both Free y k refl);
+          holders = λ y k. absurd (not_both None y k refl);
         }
     go (x ∷ xs) h =
         let o = and_parts (not (is_in x xs)) (once xs) (sym (ap once h) ∙ i.twice) in
         let first : is_in x s.queue ≡ true = ap (is_in x) h ∙ or_left (eqb x x) (is_in x xs) (eq-eqb x x refl) in
         record {
           twice = o.1;
-          others = λ y w k. both_ways (is_in y xs) (rw (same_engine (Engine x) x y refl k) at (bool-not-true (is_in x xs) o.0)) w;
-          had = λ y w k. not_both (Engine x) x refl k;
+          others = λ y w k. both_ways (is_in y xs) (rw (same_engine (Some x) x y refl k) at (bool-not-true (is_in x xs) o.0)) w;
+          had = λ y w k. not_both (Some x) x refl k;
           waiters = λ y w. i.waiters y (ap (is_in y) h ∙ or_right (eqb x y) (is_in y xs) w);
-          holders = λ y k. rw (same_engine (Engine x) x y refl k) at (i.waiters x first);
+          holders = λ y k. rw (same_engine (Some x) x y refl k) at (i.waiters x first);
         }
 
 -- an engine leaves the queue
@@ -134,8 +132,8 @@ take_keeps t e p sound =
     few idle y w = elim (joined_cases y e (queue_at t p) w) [ inl q ↦ inr (rw q at idle) | inr v ↦ inl v ]
 
     by : e < 64 → Idle t e → (h : Holder) → (place_at t p).has ≡ h → Keeps t p (take_by h (place_at t p) e)
-    by below idle Free h = cond_both (changeable (place_at t p)) _ _ (Keeps t p) (λ _. (taken_order (place_at t p) e (sound.order p) below h, λ y w. inl w)) (λ _. tt)
-    by below idle (Engine f) h =
+    by below idle None h = cond_both (changeable (place_at t p)) _ _ (Keeps t p) (λ _. (taken_order (place_at t p) e (sound.order p) below h, λ y w. inl w)) (λ _. tt)
+    by below idle (Some f) h =
         cond_both (eqb f e) _ _ (Keeps t p) (λ _. tt)
         (λ n. (joined_order (place_at t p) e f (sound.order p) below (not-true (is_in e (queue_at t p)) (idle p)) h (eqb-false f e n), few idle))
 
@@ -143,8 +141,8 @@ pub free_keeps : (t : Table) (e p : ℕ) → Sound t → Keeps t p (free_outcome
 free_keeps t e p sound = unless_either t e p (free_section (place_at t p) e) (Keeps t p) (λ _. tt) (λ _. by (place_at t p).has)
   where
     by : (h : Holder) → Keeps t p (free_by h (place_at t p) e)
-    by Free = tt
-    by (Engine f) =
+    by None = tt
+    by (Some f) =
         cond_both (eqb f e) _ _ (Keeps t p)
         (λ _. cond_both (changeable (place_at t p)) _ _ (Keeps t p) (λ _. (passed_order (place_at t p) (sound.order p), λ y w. inl (rest_in y (queue_at t p) w))) (λ _. tt))
         (λ _. tt)
@@ -156,7 +154,7 @@ give_up_keeps t e p sound =
     (λ _. tt)
 
 -- a table of sections that nobody has and nobody waits for
-pub quiet_sound : (s : Section) → s.has ≡ Free → s.queue ≡ [] → Sound (replicate 64 s)
+pub quiet_sound : (s : Section) → s.has ≡ None → s.queue ≡ [] → Sound (replicate 64 s)
 quiet_sound s free none =
     record { order = λ p. elim (at p) [ inl h ↦ rw h (quiet s free none) | inr h ↦ rw h (quiet idle refl refl) ]; apart = λ e p q w. nobody e p w.0 }
   where
@@ -169,7 +167,7 @@ quiet_sound s free none =
     nobody : (e p : ℕ) → WaitsAt (replicate 64 s) e p → ⊥
     nobody e p w = elim (at p) [ inl h ↦ no e _ (ap (λ x. x.queue) h ∙ none) w | inr h ↦ no e _ (ap (λ x. x.queue) h) w ]
 
-    quiet : (x : Section) → x.has ≡ Free → x.queue ≡ [] → InOrder x
+    quiet : (x : Section) → x.has ≡ None → x.queue ≡ [] → InOrder x
     quiet x f n =
         record {
           twice = ap once n;

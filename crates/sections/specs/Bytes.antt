@@ -1,7 +1,6 @@
 -- The numbers and byte values by which messages speak of refusals, answers and holders.
-use Rattle.std.specs.Prelude.{ℕ, Ok, Err, Result}
-use Rattle.sections.specs.declared.Holder.{Holder}
-use Rattle.sections.specs.declared.Holder.TheVariants.{Free, Engine}
+use Rattle.std.specs.Prelude.{ℕ, Some, None, Ok, Err, Result}
+use Rattle.sections.specs.Table.{Holder}
 use Rattle.sections.specs.declared.Done.{Done}
 use Rattle.sections.specs.declared.Done.TheVariants.{Had, Waits, LetGo, Left}
 use Rattle.sections.specs.declared.Refusal.{Refusal}
@@ -28,5 +27,5 @@ answer_byte (Err _) = 0
 
 -- who has a section: the engine's number, or 255 for nobody
 abbrev pub who_byte : Holder → ℕ
-who_byte Free = 255
-who_byte (Engine engine) = engine
+who_byte None = 255
+who_byte (Some engine) = engine

@@ -1,6 +1,5 @@
 -- How a section lies in memory, and what always holds of it there.
-use Rattle.std.specs.Prelude.{◌≡◌, ℕ, ◌/◌, ◌%◌, ◌^◌, ◌<◌, ◌≤◌, Bool, List, [], map, length, take, Ok, Err, Result, ◌==◌, slice_index_or}
-use Rattle.sections.specs.declared.Holder.TheVariants.{Free}
+use Rattle.std.specs.Prelude.{◌≡◌, ℕ, ◌/◌, ◌%◌, ◌^◌, ◌<◌, ◌≤◌, Bool, List, [], map, length, take, None, Ok, Err, Result, ◌==◌, slice_index_or}
 use Rattle.sections.specs.declared.Done.{Done}
 use Rattle.sections.specs.declared.Refusal.{Refusal}
 use Rattle.sections.specs.declared.queue.Queue.{Queue}
@@ -33,7 +32,7 @@ table_of_rows rows = map section_of rows
 
 -- what is read past the last row: nobody ever had it
 abbrev pub idle_row : Row
-idle_row = record { holder = Free; change = 0; queue = record { engines = []; length = 0; «set» = 0 } }
+idle_row = record { holder = None; change = 0; queue = record { engines = []; length = 0; «set» = 0 } }
 
 abbrev pub AllMatch : List Row → Type 0
 AllMatch rows = (place : ℕ) → Matches (slice_index_or rows place idle_row).queue

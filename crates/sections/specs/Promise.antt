@@ -1,6 +1,5 @@
 -- What is promised of a box's sections, after every list of calls from the empty table on.
-use Rattle.std.specs.Prelude.{◌≡◌, ℕ, Bool, true, false, ◌&&◌, ◌||◌, List, [], ◌∷◌, ◌==◌, ◌≢◌}
-use Rattle.sections.specs.declared.Holder.TheVariants.{Engine}
+use Rattle.std.specs.Prelude.{◌≡◌, ℕ, Bool, true, false, ◌&&◌, ◌||◌, List, [], ◌∷◌, Some, ◌==◌, ◌≢◌}
 use Rattle.sections.specs.Table.{Table, empty, free_of, give_up_of, holder_at, is_in, queue_at, take_of}
 use Rattle.sections.specs.Sound.{WaitsAt, once}
 
@@ -16,7 +15,7 @@ InTurn before now = (place one other : ℕ) → WaitsAt before other place → a
 -- from one table to the next, who gets a section that another had was the first of its queue, and the rest wait on
 abbrev pub FirstServed : Table → Table → Type 0
 FirstServed before now =
-    (place old new : ℕ) → holder_at before place ≡ Engine old → holder_at now place ≡ Engine new → (old ≢ new) → queue_at before place ≡ new ∷ queue_at now place
+    (place old new : ℕ) → holder_at before place ≡ Some old → holder_at now place ≡ Some new → (old ≢ new) → queue_at before place ≡ new ∷ queue_at now place
 
 -- a call: by an engine, for the section at a place
 pub data Call : Type 0 where
@@ -37,7 +36,7 @@ after (call ∷ calls) = next (after calls) call
 
 -- 1. At most one has a section.
 abbrev pub OneHolder : Type 0
-OneHolder = (calls : List Call) (place one other : ℕ) → holder_at (after calls) place ≡ Engine one → holder_at (after calls) place ≡ Engine other → one ≡ other
+OneHolder = (calls : List Call) (place one other : ℕ) → holder_at (after calls) place ≡ Some one → holder_at (after calls) place ≡ Some other → one ≡ other
 
 -- 2. Nobody waits twice for a section,
 abbrev pub AlwaysNobodyTwice : Type 0
@@ -45,7 +44,7 @@ AlwaysNobodyTwice = (calls : List Call) (place : ℕ) → once (queue_at (after 
 
 -- nor for one that it has,
 abbrev pub AlwaysNobodyItsOwn : Type 0
-AlwaysNobodyItsOwn = (calls : List Call) (engine place : ℕ) → WaitsAt (after calls) engine place → holder_at (after calls) place ≢ Engine engine
+AlwaysNobodyItsOwn = (calls : List Call) (engine place : ℕ) → WaitsAt (after calls) engine place → holder_at (after calls) place ≢ Some engine
 
 -- nor for two.
 abbrev pub AlwaysOneQueue : Type 0
@@ -53,7 +52,7 @@ AlwaysOneQueue = (calls : List Call) (engine p q : ℕ) → WaitsAt (after calls
 
 -- 3. Whoever waits for a section, somebody has it.
 abbrev pub AlwaysSomebodyHas : Type 0
-AlwaysSomebodyHas = (calls : List Call) (engine place : ℕ) → WaitsAt (after calls) engine place → (holder : ℕ) × (holder_at (after calls) place ≡ Engine holder)
+AlwaysSomebodyHas = (calls : List Call) (engine place : ℕ) → WaitsAt (after calls) engine place → (holder : ℕ) × (holder_at (after calls) place ≡ Some holder)
 
 -- 4. Nobody overtakes.
 abbrev pub NobodyOvertakes : Type 0

@@ -1,6 +1,5 @@
 -- What always holds of a box's sections: every queue is in order, and nobody stands in two of them.
-use Rattle.std.specs.Prelude.{◌≡◌, ℕ, ◌<◌, Bool, true, not, ◌&&◌, ◌⊎◌, List, [], ◌∷◌, Ok, Err, ◌≢◌}
-use Rattle.sections.specs.declared.Holder.TheVariants.{Free, Engine}
+use Rattle.std.specs.Prelude.{◌≡◌, ℕ, ◌<◌, Bool, true, not, ◌&&◌, ◌⊎◌, List, [], ◌∷◌, Some, None, Ok, Err, ◌≢◌}
 use Rattle.sections.specs.Table.{Outcome, Section, Table, holder_at, is_in, queue_at}
 
 -- does nobody stand in a queue twice
@@ -18,11 +17,11 @@ NobodyTwice t = (place : ℕ) → once (queue_at t place) ≡ true
 
 -- nobody waits for a section that it has
 abbrev pub NobodyItsOwn : Table → Type 0
-NobodyItsOwn t = (engine place : ℕ) → WaitsAt t engine place → holder_at t place ≢ Engine engine
+NobodyItsOwn t = (engine place : ℕ) → WaitsAt t engine place → holder_at t place ≢ Some engine
 
 -- nobody waits for a section that is free
 abbrev pub NobodyForFree : Table → Type 0
-NobodyForFree t = (engine place : ℕ) → WaitsAt t engine place → holder_at t place ≢ Free
+NobodyForFree t = (engine place : ℕ) → WaitsAt t engine place → holder_at t place ≢ None
 
 -- nobody waits for two sections
 abbrev pub OneQueue : Table → Type 0
@@ -34,15 +33,15 @@ WaitersKnown t = (engine place : ℕ) → WaitsAt t engine place → engine < 64
 
 -- whoever has a section has a number below 64
 abbrev pub HoldersKnown : Table → Type 0
-HoldersKnown t = (engine place : ℕ) → holder_at t place ≡ Engine engine → engine < 64
+HoldersKnown t = (engine place : ℕ) → holder_at t place ≡ Some engine → engine < 64
 
 -- a section in order: nobody waits for it twice, nor has it, nor waits where it is free, and all are engines
 pub record InOrder (s : Section) : Type 0 where
   pub twice : once s.queue ≡ true
-  pub others : (e : ℕ) → is_in e s.queue ≡ true → s.has ≢ Engine e
-  pub had : (e : ℕ) → is_in e s.queue ≡ true → s.has ≢ Free
+  pub others : (e : ℕ) → is_in e s.queue ≡ true → s.has ≢ Some e
+  pub had : (e : ℕ) → is_in e s.queue ≡ true → s.has ≢ None
   pub waiters : (e : ℕ) → is_in e s.queue ≡ true → e < 64
-  pub holders : (e : ℕ) → s.has ≡ Engine e → e < 64
+  pub holders : (e : ℕ) → s.has ≡ Some e → e < 64
 
 -- whoever waits for a section now waited for it before, or waited nowhere
 abbrev pub FewNew : Table → ℕ → Section → Type 0

@@ -1,11 +1,13 @@
 -- One box's sections as plain values, and what each call makes of them: the machine that the code is held to.
 use Rattle.std.specs.Prelude.{ℕ, ◌+◌, Bool, false, cond, not, ◌&&◌, ◌||◌, List, [], ◌∷◌, ◌++◌, replicate, Some, None, Ok, Err, filter, Option, Result, ◌==◌, nat_lt, slice_index_or, slice_set}
-use Rattle.sections.specs.declared.Holder.{Holder}
-use Rattle.sections.specs.declared.Holder.TheVariants.{Free, Engine}
 use Rattle.sections.specs.declared.Done.{Done}
 use Rattle.sections.specs.declared.Done.TheVariants.{Had, Waits, LetGo, Left}
 use Rattle.sections.specs.declared.Refusal.{Refusal}
 use Rattle.sections.specs.declared.Refusal.TheVariants.{OutOfRange, Waiting, Mismatch, AtLimit}
+
+-- who has a section: an engine by its number, or nobody
+abbrev pub Holder : Type 0
+Holder = Option ℕ
 
 -- a section: who has it, who waits for it in the order of coming, and how often its holder changed
 pub record Section : Type 0 where
@@ -15,7 +17,7 @@ pub record Section : Type 0 where
 
 -- a section that nobody ever had
 abbrev pub idle : Section
-idle = record { has = Free; queue = []; change = 0 }
+idle = record { has = None; queue = []; change = 0 }
 
 -- a box's sections by place
 abbrev pub Table : Type 0
@@ -73,8 +75,8 @@ abbrev pub Outcome : Type 0
 Outcome = Result (Section × Done) Refusal
 
 abbrev pub take_by : Holder → Section → ℕ → Outcome
-take_by Free s engine = cond (changeable s) (Ok (record { has = Engine engine; queue = s.queue; change = s.change + 1 }, Had)) (Err AtLimit)
-take_by (Engine holder) s engine = cond (holder == engine) (Err Mismatch) (Ok (record { has = s.has; queue = s.queue ++ engine ∷ []; change = s.change }, Waits holder))
+take_by None s engine = cond (changeable s) (Ok (record { has = Some engine; queue = s.queue; change = s.change + 1 }, Had)) (Err AtLimit)
+take_by (Some holder) s engine = cond (holder == engine) (Err Mismatch) (Ok (record { has = s.has; queue = s.queue ++ engine ∷ []; change = s.change }, Waits holder))
 
 -- take: a free section is had; one that another has is waited for, at the end of its queue
 abbrev pub take_section : Section → ℕ → Outcome
@@ -82,8 +84,8 @@ take_section s engine = take_by s.has s engine
 
 -- who gets a section that is let go: the first of its queue, or nobody
 abbrev pub first_of : List ℕ → Holder
-first_of [] = Free
-first_of (first ∷ _) = Engine first
+first_of [] = None
+first_of (first ∷ _) = Some first
 
 -- those behind the first
 abbrev pub rest_of : List ℕ → List ℕ
@@ -95,8 +97,8 @@ abbrev pub pass_on : Section → Section
 pass_on s = record { has = first_of s.queue; queue = rest_of s.queue; change = s.change + 1 }
 
 abbrev pub free_by : Holder → Section → ℕ → Outcome
-free_by Free s engine = Err Mismatch
-free_by (Engine holder) s engine = cond (holder == engine) (cond (changeable s) (Ok (pass_on s, LetGo (first_of s.queue))) (Err AtLimit)) (Err Mismatch)
+free_by None s engine = Err Mismatch
+free_by (Some holder) s engine = cond (holder == engine) (cond (changeable s) (Ok (pass_on s, LetGo (first_of s.queue))) (Err AtLimit)) (Err Mismatch)
 
 -- free: only by the engine that has the section
 abbrev pub free_section : Section → ℕ → Outcome

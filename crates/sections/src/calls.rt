@@ -7,7 +7,7 @@ ghost use Rattle.sections.specs.Promise.{FirstServed, InTurn};
 ghost use Rattle.sections.specs.Sound.{Keeps};
 
 use crate::row::Row;
-use crate::{Done, ENGINES, Holder, PLACES, Refusal, Sections, row};
+use crate::{Done, ENGINES, PLACES, Refusal, Sections, row};
 
 impl Sections {
     // All sections free, and never had.
@@ -20,23 +20,17 @@ impl Sections {
     }
 
     // Who has the section at a place; where there is no such place, nobody.
-    pub fn holder(&self, place: u8) -> Holder
+    pub fn holder(&self, place: u8) -> Option<u8>
         ensures { result ≡ holder_at (table_of self.now) place }
     {
-        match self.row(place) {
-            Some(row) => row.holder,
-            None => Holder::Free,
-        }
+        self.row(place).and_then(|row| row.holder)
     }
 
     // How often the holder of the section at a place has changed.
     pub fn change(&self, place: u8) -> u32
         ensures { result ≡ change_number_at (table_of self.now) place }
     {
-        match self.row(place) {
-            Some(row) => row.change,
-            None => 0,
-        }
+        self.row(place).map_or(0, |row| row.change)
     }
 
     // Who waits for the section at a place, in the order of coming.

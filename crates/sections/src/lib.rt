@@ -18,13 +18,6 @@ pub const ENGINES: u8 = 64;
 
 pub const PLACES: u8 = 64;
 
-// Who has a section.
-#[derive(Clone, Copy, PartialEq, Eq, Debug)]
-pub enum Holder {
-    Free,
-    Engine(u8),
-}
-
 // What a call did.
 #[derive(Clone, Copy, PartialEq, Eq, Debug)]
 pub enum Done {
@@ -33,7 +26,7 @@ pub enum Done {
     // It stands at the end of the queue; the number is that of the engine that has the section.
     Waits(u8),
     // The section was let go, and who has it now.
-    LetGo(Holder),
+    LetGo(Option<u8>),
     // The engine left the queue.
     Left,
 }
@@ -80,16 +73,11 @@ impl Refusal {
     }
 }
 
-impl Holder {
-    // The engine's number, or 255 for nobody.
-    pub fn byte(self) -> u8
-        ensures { result ≡ who_byte self }
-    {
-        match self {
-            Holder::Free => 255,
-            Holder::Engine(engine) => engine,
-        }
-    }
+// Who has a section, as one byte: the engine's number, or 255 for nobody.
+pub fn holder_byte(holder: Option<u8>) -> u8
+    ensures { result ≡ who_byte holder }
+{
+    holder.unwrap_or(255)
 }
 
 // The answer byte of a call: 1 done, 2 waits, 0 not.

@@ -4,8 +4,6 @@ ghost use Rattle.sections.specs.Table.{first_of, is_in, rest_of, without};
 ghost use Rattle.sections.specs.Sound.{once};
 ghost use Rattle.sections.specs.Layout.{Fits, Matches, engines_of};
 
-use crate::Holder;
-
 #[derive(Clone, Copy)]
 pub struct Queue {
     engines: [u8; 64],
@@ -108,14 +106,11 @@ impl Queue {
     }
 
     // Who stands first, if anybody does.
-    pub fn first(self) -> Holder
+    pub fn first(self) -> Option<u8>
         requires fitting { Fits self }
         ensures { result ≡ first_of (engines_of self) }
     {
-        match self.engines() {
-            [first, ..] => Holder::Engine(*first),
-            [] => Holder::Free,
-        }
+        self.engines().first().copied()
     }
 
     // The queue that its first has left.

@@ -5,18 +5,18 @@ ghost use Rattle.sections.specs.Sound.{once};
 ghost use Rattle.sections.specs.Layout.{Fits, Matches, Storable, engines_of, outcome_of, section_of};
 
 use crate::queue::Queue;
-use crate::{Done, Holder, Refusal, queue};
+use crate::{Done, Refusal, queue};
 
 #[derive(Clone, Copy)]
 pub struct Row {
-    pub holder: Holder,
+    pub holder: Option<u8>,
     pub change: u32,
     pub queue: Queue,
 }
 
 // A section that nobody ever had.
 pub const IDLE: Row = Row {
-    holder: Holder::Free,
+    holder: None,
     change: 0,
     queue: queue::EMPTY,
 };
@@ -43,23 +43,19 @@ impl Row {
         ensures storable { Storable result }
     {
         match self.holder {
-            Holder::Free => {
+            None => {
                 let change = self.next_change()?;
-                let holder = Holder::Engine(engine);
                 let row = Row {
-                    holder,
+                    holder: Some(engine),
                     change,
                     ..self
                 };
                 Ok((row, Done::Had))
             }
-            Holder::Engine(holder) => {
-                if holder == engine {
-                    Err(Refusal::Mismatch)
-                } else {
-                    let queue = self.queue.joined(engine);
-                    Ok((Row { queue, ..self }, Done::Waits(holder)))
-                }
+            Some(holder) if holder == engine => Err(Refusal::Mismatch),
+            Some(holder) => {
+                let queue = self.queue.joined(engine);
+                Ok((Row { queue, ..self }, Done::Waits(holder)))
             }
         }
     }
@@ -73,20 +69,18 @@ impl Row {
         ensures after { outcome_of result ≡ free_section (section_of self) engine }
         ensures storable { Storable result }
     {
-        match self.holder {
-            Holder::Engine(holder) if holder == engine => {
-                let change = self.next_change()?;
-                let holder = self.queue.first();
-                let queue = self.queue.rest();
-                let row = Row {
-                    holder,
-                    change,
-                    queue,
-                };
-                Ok((row, Done::LetGo(holder)))
-            }
-            _ => Err(Refusal::Mismatch),
+        if self.holder != Some(engine) {
+            return Err(Refusal::Mismatch);
         }
+        let change = self.next_change()?;
+        let holder = self.queue.first();
+        let queue = self.queue.rest();
+        let row = Row {
+            holder,
+            change,
+            queue,
+        };
+        Ok((row, Done::LetGo(holder)))
     }
 
     // An engine leaves the queue.
