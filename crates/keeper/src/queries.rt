@@ -47,9 +47,6 @@ impl Keeper {
     pub fn last_call(&self, engine: Engine) -> LastCall
         ensures { result ≡ last_of (model_of self.now) engine.0 }
     {
-        self.calls
-            .get(engine.0 as usize)
-            .copied()
-            .unwrap_or(NEVER)
+        self.calls.get(engine.0 as usize).copied().unwrap_or(NEVER)
     }
 }

@@ -52,10 +52,8 @@ impl Verdict {
             Verdict::Refused(_, answer) | Verdict::Done(answer) | Verdict::PassedOn(answer) => {
                 Some(answer)
             }
-            Verdict::Malformed
-            | Verdict::PassedOver
-            | Verdict::Again(_)
-            | Verdict::AtLimit(_) => None,
+            Verdict::Malformed | Verdict::PassedOver | Verdict::Again(_) | Verdict::AtLimit(_) =>
+                None,
         }
     }
 }
