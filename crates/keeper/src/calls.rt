@@ -62,7 +62,7 @@ impl Keeper {
         requires { call.engine.0 < 64 }
         ensures { (model_of self.new, result) ≡ numbered_of (turn_of (last_of (model_of self.old) call.engine.0).number call.number) (model_of self.old) call }
     {
-        let last = self.calls[call.engine.0 as usize];
+        let last = self.last_call(call.engine);
         match turn_of(last.number, call.number) {
             Turn::Last => Verdict::Again(last.answer),
             Turn::Next => self.tried(call),
