@@ -4,6 +4,7 @@ use Rattle.messages.specs.declared.yard.Engine.{Engine}
 use Rattle.messages.specs.declared.yard.Section.{Section}
 use Rattle.messages.specs.Homes.{home_of}
 use Rattle.messages.specs.declared.message.Call.{Call}
+use Rattle.messages.specs.declared.message.Sign.{Sign}
 use Rattle.messages.specs.declared.message.Message.TheVariants as message
 use Rattle.messages.specs.declared.message.Record.TheVariants as journal
 use Rattle.engine_state.specs.declared.state.Event.{Event}
@@ -14,10 +15,14 @@ use Rattle.home.specs.Queries.{engine, holds_at, note_at}
 use Rattle.journal.specs.declared.output.Output.TheVariants as output
 use Rattle.boxes.specs.Log.{Log, recorded, said, sent, each}
 
+-- a sign, to the home of the engine that it is told to
+abbrev pub sign_sent : Home → Sign → Log → Log
+sign_sent h s l = sent l (home_of h.yard s.to) (message.Sign s)
+
 -- the sign that one of ours shows, to an engine that is noted as waiting for what it holds
 abbrev pub tell_noted : Home → Engine → ℕ → Engine → Noted → Log → Log
 tell_noted h by sign x None l = l
-tell_noted h by sign x (Some seen) l = cond (holds_at h by seen.section) (sent l (home_of h.yard x) (message.Sign (record { to = x; count = seen.count; by = by; sign = sign }))) l
+tell_noted h by sign x (Some seen) l = cond (holds_at h by seen.section) (sign_sent h (record { to = x; count = seen.count; by = by; sign = sign }) l) l
 
 abbrev pub tell_of : Home → Engine → ℕ → Engine → Log → Log
 tell_of h by sign x l = tell_noted h by sign x (note_at h x) l
@@ -47,4 +52,4 @@ emit_of h (event.Called c) l = called_of c l
 emit_of h (event.Found c) l = found_of c l
 emit_of h (event.Began start) l = began_of h start.engine start.section start.change start.holder start.count start.own l
 emit_of h (event.Heard e sign) l = tells_of h e sign (recorded l (journal.Heard e sign))
-emit_of h (event.Noted telling) l = sent l (home_of h.yard telling.to) (message.Sign (record { to = telling.to; count = telling.count; by = telling.by; sign = telling.sign }))
+emit_of h (event.Noted s) l = sign_sent h s l

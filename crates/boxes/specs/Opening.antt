@@ -11,6 +11,7 @@ use Rattle.keeper.specs.declared.Verdict.TheVariants as verdict
 use Rattle.home.specs.declared.home.Home.{Home}
 use Rattle.home.specs.Home.{is_ours, apply_of}
 use Rattle.home.specs.Queries.{is_next}
+use Rattle.boxes.specs.declared.opening.Unwritten.{Unwritten}
 use Rattle.boxes.specs.declared.signal_box.SignalBox.{SignalBox}
 use Rattle.boxes.specs.Model.{State, state_of, with_keeper, with_home}
 
@@ -56,6 +57,6 @@ unfoldable pub open_from : ℕ → List Record → State → Result State ℕ
 open_from i [] b = Ok b
 open_from i (r ∷ rs) b = cond (replay_of b r).1 (open_from (i + 1) rs (replay_of b r).0) (Err i)
 
-abbrev pub opened : Result SignalBox ℕ → Result State ℕ
+abbrev pub opened : Result SignalBox Unwritten → Result State ℕ
 opened (Ok b) = Ok (state_of b)
-opened (Err i) = Err i
+opened (Err e) = Err e.index

@@ -1,8 +1,7 @@
 -- A keeper names no engine beyond those that call it: by what a call makes of one section.
-use Rattle.std.specs.Prelude.{None, Some}
-use Rattle.std.proofs.Common.{◌≡◌, ℕ, ◌+◌, ◌<◌, true, false, not, eqb, List, [], ◌∷◌, ◌++◌, length, get_or, set, replicate, Some, None, Ok, Err, Option, Result, sym, refl, ◌∙◌, inl, inr}
+use Rattle.std.proofs.Common.{◌≡◌, ℕ, ◌+◌, ◌<◌, true, not, eqb, List, [], ◌∷◌, ◌++◌, length, get_or, set, replicate, Some, None, Ok, Err, Option, Result, sym, refl, ◌∙◌, inl, inr}
 use Rattle.std.proofs.lemmas.List.{get_or_past, get_or-replicate, length-replicate}
-use Rattle.std.proofs.lemmas.Bool.{and_parts, both_ways, cases_lt, cond_both, eq-eqb, eqb-true, or_cases, or_left, or_right}
+use Rattle.std.proofs.lemmas.Bool.{and_parts, cases_lt, cond_both, eq-eqb, eqb-true, or_cases, or_left, or_right}
 use Rattle.messages.specs.declared.yard.Yard.{Yard}
 use Rattle.messages.specs.declared.message.Act.{Act}
 use Rattle.messages.specs.declared.message.Act.TheVariants as act
@@ -10,12 +9,11 @@ use Rattle.messages.specs.declared.message.Call.{Call}
 use Rattle.messages.specs.Range.{HolderIn}
 use Rattle.sections.specs.declared.Done.{Done}
 use Rattle.sections.specs.declared.Done.TheVariants as did
-use Rattle.sections.specs.Table.{Holder}
 use Rattle.sections.specs.declared.Refusal.{Refusal}
 use Rattle.sections.specs.declared.Refusal.TheVariants as refused
-use Rattle.sections.specs.Table.{Outcome, Section, Table, changeable, first_of, free_by, free_outcome, give_up_outcome, give_up_section, idle, is_in, known, refusal_of, rest_of, place_at, settle, take_by, take_outcome, unless}
+use Rattle.sections.specs.Table.{Holder, Outcome, Section, Table, changeable, first_of, free_by, free_outcome, give_up_outcome, give_up_section, idle, is_in, known, refusal_of, rest_of, place_at, settle, take_by, take_outcome, unless}
 use Rattle.sections.proofs.Lists.{is_in_push, is_in_without}
-use Rattle.sections.proofs.Sound.{not_both, same_engine}
+use Rattle.sections.proofs.Sound.{same_engine}
 use Rattle.sections.proofs.Tables.{put_read, set_read}
 use Rattle.keeper.specs.declared.LastCall.{LastCall}
 use Rattle.keeper.specs.declared.Verdict.{Verdict}
@@ -50,7 +48,7 @@ module _ (y : Yard) where
   take_within (Some f) s e q h w = cond_both (eqb f e) _ _ OutcomeWithin (λ _. tt) (λ _. (w.0, pushed s.queue e h w.1))
 
   passed : (c : ℕ) (xs : List ℕ) → ((x : ℕ) → is_in x xs ≡ true → x < y.engines) → SectionWithin y (record { has = first_of xs; queue = rest_of xs; change = c })
-  passed c [] all = (λ x r. absurd (not_both None x r refl), all)
+  passed c [] all = (λ x r. cc, all)
   passed c (f ∷ xs) all =
       (λ x r. rw (same_engine (Some f) f x refl r) at (all f (or_left (eqb f f) (is_in f xs) (eq-eqb f f refl))), λ x r. all x (or_right (eqb f x) (is_in x xs) r))
 
@@ -134,7 +132,7 @@ everywhere : {X : Type 0} (x : X) (i : ℕ) → get_or (replicate 64 x) i x ≡ 
 everywhere x i = elim (cases_lt i 64) [ inl h ↦ get_or-replicate 64 i x x h | inr h ↦ get_or_past (replicate 64 x) i x (rw (length-replicate 64 x) h) ]
 
 fresh_within : (y : Yard) → Within y fresh
-fresh_within y = (λ p. rw (everywhere idle p) (λ e q. absurd (not_both None e q refl), λ e w. absurd (both_ways false refl w)), λ e. rw (everywhere never e) (tt, tt))
+fresh_within y = (λ p. rw (everywhere idle p) (λ e q. cc, λ e w. cc), λ e. rw (everywhere never e) (tt, tt))
 
 pub stays_in_yard : StaysInYard
 stays_in_yard y [] h = fresh_within y

@@ -1,8 +1,8 @@
 -- Which homes are told of a change of a section. Assumes nothing.
-use Rattle.std.specs.Prelude.{◌≡◌, ℕ, ◌%◌, Bool, true, false, ◌||◌, ◌⊎◌, List, [], ◌∷◌, ◌==◌, None, Some}
+use Rattle.std.specs.Prelude.{◌≡◌, ℕ, ◌%◌, Bool, true, false, ◌||◌, ◌⊎◌, List, ◌==◌, None, Some}
+use Rattle.std.specs.List.{list_any}
 use Rattle.messages.specs.declared.yard.Yard.{Yard}
-use Rattle.sections.specs.Table.{Holder}
-use Rattle.sections.specs.Table.{Table, holder_at, is_in, queue_at}
+use Rattle.sections.specs.Table.{Holder, Table, holder_at, is_in, queue_at}
 
 -- the box that is an engine's home
 abbrev pub home_of : Yard → ℕ → ℕ
@@ -15,8 +15,7 @@ home_of_holder y b (Some e) = home_of y e == b
 
 -- is a box the home of one in a queue
 abbrev pub home_of_any : Yard → ℕ → List ℕ → Bool
-home_of_any y b [] = false
-home_of_any y b (e ∷ es) = home_of y e == b || home_of_any y b es
+home_of_any y b es = list_any (λ e. home_of y e == b) es
 
 -- is a box told of a change of the section at a place
 abbrev pub told_of : Yard → ℕ → Table → ℕ → Bool

@@ -65,6 +65,16 @@ verdict_of a (Err refused.Waiting) = verdict.Refused refusal.Waiting a
 verdict_of a (Err refused.Mismatch) = verdict.Refused refusal.Mismatch a
 verdict_of a (Err refused.AtLimit) = verdict.AtLimit a
 
+-- the answer of a call that used up its number
+abbrev pub recorded_of : Verdict → Option Answer
+recorded_of verdict.Malformed = None
+recorded_of verdict.PassedOver = None
+recorded_of (verdict.Again a) = None
+recorded_of (verdict.AtLimit a) = None
+recorded_of (verdict.Refused r a) = Some a
+recorded_of (verdict.Done a) = Some a
+recorded_of (verdict.PassedOn a) = Some a
+
 -- the numbers of refusals, answers and holders are the same in both words
 abbrev pub SameNumbers : Type 0
 SameNumbers =
