@@ -7,6 +7,7 @@ use Rattle.messages.specs.declared.yard.Section.{Section}
 use Rattle.messages.specs.declared.message.Act.{Act}
 use Rattle.messages.specs.declared.message.Act.TheVariants as act
 use Rattle.messages.specs.declared.message.Call.{Call}
+use Rattle.messages.specs.declared.message.Sign.{Sign}
 use Rattle.messages.specs.declared.message.Refusal.TheVariants as refusal
 use Rattle.engine_state.specs.declared.places.Places.{Places}
 use Rattle.engine_state.specs.declared.state.Event.{Event}
@@ -89,8 +90,9 @@ silent h s g to n by sign q = let z : ◌≡◌ {A = ℕ} 0 1 = cc in absurd (om
 
 told : (h : Home) (s : Section) (g : Home) (e : Engine) (count : ℕ) (by : Engine) → holds_at h by s ≡ true → Rightly h s (g, event.Noted (record { to = e; count = count; by = by; sign = (at h by).signs.shown }))
 told h s g e count by holds to n by' sign q =
-    let same : by ≡ by' = cc in
-    let shown : (at h by).signs.shown ≡ sign = cc in
+    let whole : ◌≡◌ {A = Sign} (record { to = e; count = count; by = by; sign = (at h by).signs.shown }) (record { to = to; count = n; by = by'; sign = sign }) = cc in
+    let same : by ≡ by' = ap (λ (t : Sign). t.by) whole in
+    let shown : (at h by).signs.shown ≡ sign = ap (λ (t : Sign). t.sign) whole in
     (subst (λ (x : Engine). holds_at h x s ≡ true) same holds, sym shown ∙ ap (λ (x : Engine). (at h x).signs.shown) same)
 
 noted_rightly : (h : Home) (e : Engine) (s : Section) (count : ℕ) (o : Option Engine) → holder_of h s ≡ o → Rightly h s (noted_for h e s count o)

@@ -10,6 +10,7 @@ use Rattle.messages.specs.declared.message.Record.TheVariants as journal
 use Rattle.engine_state.specs.declared.state.Known.{Known}
 use Rattle.engine_state.specs.declared.state.Known.TheVariants as known
 use Rattle.engine_state.specs.declared.state.State as engines
+use Rattle.home.specs.Noted.{Noted}
 use Rattle.home.specs.declared.home.Home.{Home}
 use Rattle.home.specs.Home.{apply_of, is_ours, with}
 use Rattle.home.specs.Queries.{engine, note_at}
@@ -75,6 +76,8 @@ open_blank i (r ∷ rs) b c q k = go (replay_of b r).1 (λ p. open_blank (i + 1)
 pub fresh_blank : (y : Yard) (n : BoxNumber) → Blank (fresh y n).home
 fresh_blank y n = (λ e. all_same 64 known.Pending e, λ e. go e (ltb e 64))
   where
-    go : (e : ℕ) (t : Bool) → cond t (get_or (replicate 64 None) e None) None ≡ None
-    go e true = all_same 64 None e
+    nothing : Noted
+    nothing = None
+    go : (e : ℕ) (t : Bool) → cond t (get_or (replicate 64 nothing) e nothing) nothing ≡ nothing
+    go e true = all_same 64 nothing e
     go e false = refl

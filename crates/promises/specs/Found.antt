@@ -31,7 +31,7 @@ AlwaysFound = (w : World) (ring : List ℕ) → Reached w → Ring w ring → ((
 -- the home of i knows for whom it waits, and the home of that one knows that i waits
 abbrev pub Noted : World → ℕ → ℕ → Type 0
 Noted w i j = (x : Wait) × (wait_at (home_in w (record { 0 = i })) (record { 0 = i }) ≡ Some x) × (x.whom.0 ≡ j) × (holder_in w x.section ≡ Some j)
-    × (note_at (home_in w (record { 0 = j })) (record { 0 = i }) ≡ Some x)
+    × (note_at (home_in w (record { 0 = j })) (record { 0 = i }) ≡ Some (record { section = x.section; count = x.count }))
 
 abbrev pub NotedChain : World → ℕ → List ℕ → ℕ → Type 0
 NotedChain w i [] z = Noted w i z

@@ -27,6 +27,7 @@ use Rattle.engine_state.specs.Inputs.{answer_at, change_at, sign_at}
 use Rattle.keeper.specs.declared.LastCall.{LastCall}
 use Rattle.keeper.specs.Model as keeper
 use Rattle.home.specs.declared.home.Home.{Home}
+use Rattle.home.specs.declared.home.Note.{Note}
 use Rattle.home.specs.Noted.{Noted}
 use Rattle.home.specs.Home.{is_home, is_ours, at, with, made_of}
 use Rattle.home.specs.Queries.{engine, note_at, holder_of}
@@ -186,7 +187,7 @@ module _ (y : sizes.Yard) (bs : Boxes) (z : model.Yard) (n : ℕ) (h : Home) whe
             sections = o.sections;
           }
 
-waits≢nothing : {s : Section} {c : ℕ} → None ≡ Some (record { section = s; count = c }) → ⊥
+waits≢nothing : {s : Section} {c : ℕ} → ◌≡◌ {A = Noted} None (Some (record { section = s; count = c })) → ⊥
 waits≢nothing p = let z : ◌≡◌ {A = ℕ} 0 1 = cc in omega arith
 
 -- a note that is left after a free was there before
@@ -293,9 +294,10 @@ module _ (y : sizes.Yard) (bs : Boxes) (z : model.Yard) (n : ℕ) (sized : Sized
       (get_or xs k None ≡ Some (record { section = t; count = c }) → k < 64 → HasBegun z k c (number_of t)) → get_or (set xs e (Some (record { section = s; count = count }))) k None ≡ Some (record { section = t; count = c }) → k < 64 → HasBegun z k c (number_of t)
   noted_was xs e s count k t c wide small begun old q below =
       elim (cases_eq k e) [
-        | inl i ↦ (let is : Some (record { section = s; count = count }) ≡ Some (record { section = t; count = c }) = sym (get_or-set_same xs e (Some (record { section = s; count = count })) None (omega arith)) ∙ ap (λ j. get_or (set xs e (Some (record { section = s; count = count }))) j None) (sym i) ∙ q in
-            let same : s ≡ t = cc in
-            let counts : count ≡ c = cc in
+        | inl i ↦ (let is : ◌≡◌ {A = Noted} (Some (record { section = s; count = count })) (Some (record { section = t; count = c })) = sym (get_or-set_same xs e (Some (record { section = s; count = count })) None (omega arith)) ∙ ap (λ j. get_or (set xs e (Some (record { section = s; count = count }))) j None) (sym i) ∙ q in
+            let note : ◌≡◌ {A = Note} (record { section = s; count = count }) (record { section = t; count = c }) = cc in
+            let same : s ≡ t = ap (λ (x : Note). x.section) note in
+            let counts : count ≡ c = ap (λ (x : Note). x.count) note in
             rw (i, ← counts) (subst (λ (u : Section). HasBegun z e count (number_of u)) same begun))
         | inr ne ↦ old (sym (get_or-set_other xs e k (Some (record { section = s; count = count })) None ne) ∙ q) below
       ]

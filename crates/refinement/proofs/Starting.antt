@@ -87,8 +87,10 @@ fresh_as_engine y e =
 fresh_note : (y : sizes.Yard) (b e : ℕ) → note_at (fresh_boxes y b).home (engine e) ≡ None
 fresh_note y b e = go (ltb e 64)
   where
-    go : (t : Bool) → cond t (get_or (replicate 64 None) e None) None ≡ None
-    go true = all_same 64 None e
+    nothing : Noted
+    nothing = None
+    go : (t : Bool) → cond t (get_or (replicate 64 nothing) e nothing) nothing ≡ nothing
+    go true = all_same 64 nothing e
     go false = refl
 
 pub fresh_as : (y : sizes.Yard) → y.engines ≤ 64 → As y (fresh_boxes y) model.start
