@@ -8,17 +8,10 @@ ghost use Rattle.std.specs.Option.{SomeIff};
 
 pub mod table;
 
-// For whom an engine waits.
-#[derive(Clone, Copy)]
-pub enum Wait {
-    Nobody,
-    For(u8),
-}
-
-// One engine by value. `count`: how often it has begun to wait. `shown`: the sign that it shows. `own`: the sign that it took when it last began.
+// One engine by value. `wait`: for whom it waits. `count`: how often it has begun to wait. `shown`: the sign that it shows. `own`: the sign that it took when it last began.
 #[derive(Clone, Copy)]
 pub struct Engine {
-    pub wait: Wait,
+    pub wait: Option<u8>,
     pub count: u32,
     pub shown: u64,
     pub own: u64,
@@ -95,7 +88,7 @@ impl Engine {
             return Err(Refusal::Limit);
         };
         Ok(Engine {
-            wait: Wait::For(whom),
+            wait: Some(whom),
             count,
             shown: own,
             own,
@@ -106,10 +99,7 @@ impl Engine {
     fn waits_by(self, by: u8, count: u32) -> bool
         ensures { result ≡ waits_by self by count }
     {
-        match self.wait {
-            Wait::Nobody => false,
-            Wait::For(whom) => whom == by && self.count == count,
-        }
+        self.wait == Some(by) && self.count == count
     }
 
     // A sign told by `by`: one above the sign shown is shown and told on.
@@ -137,10 +127,7 @@ impl Engine {
             return Err(Refusal::Stale);
         }
         if sign == self.own && self.shown == self.own {
-            let after = Engine {
-                wait: Wait::Nobody,
-                ..self
-            };
+            let after = Engine { wait: None, ..self };
             return Ok((after, Heard::Found));
         }
         Ok((self, Heard::PassedOver))

@@ -3,14 +3,14 @@ ghost use Rattle.std.specs.Prelude.{◌≡◌};
 ghost use Rattle.std.specs.List.{range_with_len};
 ghost use Rattle.signs.specs.Table.{fresh_of, get_of, put_of, FreshSigns, PutOne};
 
-use super::{Engine, Refusal, Wait};
+use super::{Engine, Refusal};
 
 // How many engines a yard has at most.
 pub const ENGINES: u8 = 64;
 
 #[derive(Clone, Copy)]
 pub struct Engines {
-    waits: [Wait; 64],
+    waits: [Option<u8>; 64],
     counts: [u32; 64],
     shown: [u64; 64],
     own: [u64; 64],
@@ -34,7 +34,7 @@ impl Engines {
     {
         let signs = numbers();
         Engines {
-            waits: [Wait::Nobody; 64],
+            waits: [None; 64],
             counts: [0; 64],
             shown: signs,
             own: signs,
