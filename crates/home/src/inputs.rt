@@ -34,9 +34,7 @@ impl Home {
     fn has_section(&self, section: Section) -> bool
         ensures { result ≡ has_section self.now section }
     {
-        self.yard
-            .section(section.keeper.0, section.place)
-            .is_some()
+        self.yard.section(section.keeper.0, section.place).is_some()
     }
 
     // The engine, if it is ours and the section one of the yard's.
@@ -65,7 +63,8 @@ impl Home {
     pub fn take(&mut self, engine: Engine, section: Section) -> Event
         ensures { (self.new, result) ≡ take_of self.old engine section }
     {
-        let call = self.state_for(engine, section)
+        let call = self
+            .state_for(engine, section)
             .and_then(|state| state.take(engine, section));
         self.called(call)
     }
@@ -74,7 +73,8 @@ impl Home {
     pub fn free(&mut self, engine: Engine, section: Section) -> Event
         ensures { (self.new, result) ≡ free_of self.old engine section }
     {
-        let call = self.state_for(engine, section)
+        let call = self
+            .state_for(engine, section)
             .and_then(|state| state.free(engine, section));
         let event = self.called(call);
         if call.is_ok() {
@@ -103,15 +103,18 @@ impl Home {
         ensures { (self.new, result) ≡ answer_of self.old from engine number answer.reply answer.holder answer.change }
     {
         let engines = self.yard.engines;
-        self.at(engine, |state| state.answer(from, engine, engines, number, answer))
+        self.at(
+            engine,
+            |state| state.answer(from, engine, engines, number, answer),
+        )
     }
 
     // Is it a later change of the section that the engine waits for.
     fn awaits(&self, engine: Engine, change: Change) -> bool
         ensures { result ≡ is_later (wait_at self.now engine) change.section change.change }
     {
-        self.wait(engine)
-            .is_some_and(|wait| wait.section == change.section && wait.change < change.change)
+        self.wait(engine).is_some_and(|wait| wait.section == change.section
+            && wait.change < change.change)
     }
 
     // A section has passed on, by that change: what one of ours makes of it.
