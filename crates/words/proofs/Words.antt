@@ -2,7 +2,7 @@
 use Rattle.std.proofs.Common.{◌≡◌, ℕ, List, [], ◌∷◌, ◌++◌, Some, None, Option, sym, refl, inl, inr, Bor, MatchOption}
 use Rattle.std.proofs.lemmas.Bool.{cases_eq, eq-eqb, ne_eqb}
 use Rattle.std.specs.Option.{option_map}
-use Rattle.one_box.specs.Script.{after_of}
+use Rattle.words.specs.Words.{after_of}
 
 pub after_front : (word rest : List ℕ) → after_of word (word ++ rest) ≡ Some rest
 after_front [] rest = refl

@@ -1,7 +1,7 @@
 -- the prefix is there, or is not
 use Rattle.std.proofs.lemmas.Slice.Eq.{strip_prefix_is}
-use Rattle.one_box.proofs.Words.{after_is}
-use Rattle.one_box.proofs.script.after.Goals as goal
+use Rattle.words.proofs.Words.{after_is}
+use Rattle.words.proofs.after.Goals as goal
 use Rattle.std.proofs.lemmas.Bool.Decides.{Decides-eqb}
 
 pub returns : goal.returns
