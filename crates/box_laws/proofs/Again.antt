@@ -1,4 +1,5 @@
 -- The same message again finds each half of the box as the first left it: nothing changes, and nothing is recorded.
+use Rattle.std.specs.Prelude.{None, Some}
 use Rattle.std.proofs.Common.{◌≡◌, ℕ, zero, suc, ◌^◌, ◌<◌, Bool, true, false, cond, not, ◌||◌, eqb, ltb, leb, ◌⊎◌, List, [], ◌∷◌, ◌++◌, length, get_or, set, Some, None, Option, sym, refl, ap, ◌∙◌, subst, inl, inr, arith, length-set}
 use Rattle.std.proofs.lemmas.List.{append-nil, get_or-set_same, set-get_or, set-set}
 use Rattle.std.proofs.lemmas.Bool.{both_ways, cases_eq, cond_both, cond-false, cond-true, ltb-true}
@@ -7,8 +8,7 @@ use Rattle.messages.specs.declared.yard.Engine.{Engine}
 use Rattle.messages.specs.declared.yard.Section.{Section}
 use Rattle.messages.specs.declared.yard.Yard.{Yard}
 use Rattle.messages.specs.declared.message.Call.{Call}
-use Rattle.messages.specs.declared.message.Holder.{Holder}
-use Rattle.messages.specs.declared.message.Holder.TheVariants as holder
+use Rattle.messages.specs.Holder.{Holder}
 use Rattle.messages.specs.declared.message.Message.{Message}
 use Rattle.messages.specs.declared.message.Message.TheVariants as message
 use Rattle.messages.specs.declared.message.Record.{Record}
@@ -17,8 +17,7 @@ use Rattle.messages.specs.declared.message.Refusal.TheVariants as refusal
 use Rattle.messages.specs.declared.message.Reply.{Reply}
 use Rattle.messages.specs.Range.{HolderIn, MessageIn, SectionIn}
 use Rattle.sections.specs.Table.{change_number_at, holder_at}
-use Rattle.signs.specs.declared.Wait as whom
-use Rattle.signs.specs.declared.Wait.TheVariants.{Nobody}
+use Rattle.signs.specs.Signs as whom
 use Rattle.signs.specs.declared.table.Engines.{Engines}
 use Rattle.signs.specs.Table as table
 use Rattle.engine_state.specs.declared.state.Event.{Event}
@@ -37,8 +36,7 @@ use Rattle.keeper.specs.declared.Verdict.{Verdict}
 use Rattle.keeper.specs.declared.Verdict.TheVariants as verdict
 use Rattle.keeper.proofs.OneCall.{again, followed}
 use Rattle.home.specs.declared.home.Home.{Home}
-use Rattle.home.specs.declared.home.Note.{Note}
-use Rattle.home.specs.declared.home.Note.TheVariants as note
+use Rattle.home.specs.Noted.{Noted}
 use Rattle.home.specs.Home.{at, is_home, is_ours, with}
 use Rattle.home.specs.Queries as queries
 use Rattle.home.specs.Queries.{engine, note_at}
@@ -51,7 +49,7 @@ use Rattle.home_laws.proofs.Again.{same_again}
 use Rattle.home_laws.proofs.Puts.{put_in_one}
 use Rattle.home_laws.proofs.Telling.{event_tells}
 use Rattle.boxes.specs.Log.{Log, each, none}
-use Rattle.boxes.specs.Emit.{home_of}
+use Rattle.messages.specs.Homes.{home_of}
 use Rattle.boxes.specs.Model.{State, with_home, with_keeper}
 use Rattle.boxes.specs.Keeping.{called_at, for_us, refused, ruled, ruled_log, which_at}
 use Rattle.boxes.specs.Handle.{change_for, changed_at, happened, received_of, wait_at_box, wait_sent}
@@ -98,7 +96,7 @@ same_table :
 same_table a b c d = cc
 
 table_same : (t : Engines) (e : ℕ) → table.with t e (table.engine_at t e) ≡ t
-table_same t e = same_table (set-get_or t.waits e Nobody) (set-get_or t.counts e 0) (set-get_or t.shown e 0) (set-get_or t.own e 0)
+table_same t e = same_table (set-get_or t.waits e None) (set-get_or t.counts e 0) (set-get_or t.shown e 0) (set-get_or t.own e 0)
 
 -- putting back what was read changes nothing
 pub with_same : (h : Home) (e : Engine) → with h e (at h e) ≡ h
@@ -131,11 +129,11 @@ quiet_record many e x (event.Had f p) z long b s same = refl
 quiet_record many e x event.Closed z long b s same = refl
 quiet_record many e x (event.Called c) z long b s same = absurd (called_differs x z c long s b.1 same)
 quiet_record many e x (event.Found c) z long b s same = absurd (called_differs x z c long s b.1 same)
-quiet_record many e x (event.Began f p c w n own) z long b s same =
-    let counts : n ≡ x.signs.count = ap (λ (u : engines.State). u.signs.count) (sym b.1 ∙ same) in let more = s.1 in absurd (omega arith)
+quiet_record many e x (event.Began start) z long b s same =
+    let counts : start.count ≡ x.signs.count = ap (λ (u : engines.State). u.signs.count) (sym b.1 ∙ same) in let more = s.1 in absurd (omega arith)
 quiet_record many e x (event.Heard f sign) z long b s same =
     let shows : sign ≡ x.signs.shown = ap (λ (u : engines.State). u.signs.shown) (sym b.2 ∙ same) in let more = b.1 in absurd (omega arith)
-quiet_record many e x (event.Noted to n by sign) z long b s same = refl
+quiet_record many e x (event.Noted telling) z long b s same = refl
 
 -- an engine keeps a number for each box
 abbrev Long : engines.State → Type 0
@@ -153,9 +151,9 @@ long_became e x (event.Had f s) z long b = subst Long (sym b) long
 long_became e x event.Closed z long b = subst Long (sym b) long
 long_became e x (event.Called c) z long b = subst Long (sym b.1) (made_long x c long)
 long_became e x (event.Found c) z long b = subst Long (sym b.1) (made_long x c long)
-long_became e x (event.Began f s c w n o) z long b = subst Long (sym b.1) long
+long_became e x (event.Began start) z long b = subst Long (sym b.1) long
 long_became e x (event.Heard f s) z long b = subst Long (sym b.2) long
-long_became e x (event.Noted to n by s) z long b = subst Long (sym b) long
+long_became e x (event.Noted telling) z long b = subst Long (sym b) long
 
 -- ONE HOME
 abbrev HomeTwice : (Home → Home × Event) → Home → Type 0
@@ -199,10 +197,10 @@ noted_quiet h e s count (Some by) =
     cond_both (leb 64 e.0 || is_older count (note_at h e)) _ _ (λ (p : Home × Event). Unrecorded p.1) (λ _. refl) (λ _. cond_both (is_ours h by) _ _ (λ (p : Home × Event). Unrecorded p.1) (λ _. refl) (λ _. refl))
 
 abbrev noting : Engine → Section → ℕ → Home → Home
-noting e s count h = with_notes h (set h.notes e.0 (note.Waits s count))
+noting e s count h = with_notes h (set h.notes e.0 (Some (record { section = s; count = count })))
 
 noting_twice : (e : Engine) (s : Section) (count : ℕ) (h : Home) → noting e s count (noting e s count h) ≡ noting e s count h
-noting_twice e s count h = ap (λ (xs : List Note). with_notes h xs) (set-set h.notes e.0 (note.Waits s count) (note.Waits s count))
+noting_twice e s count h = ap (λ (xs : List Noted). with_notes h xs) (set-set h.notes e.0 (Some (record { section = s; count = count })) (Some (record { section = s; count = count })))
 
 noted_either : (h : Home) (e : Engine) (s : Section) (count : ℕ) (o : Option Engine) → ((noted_for h e s count o).0 ≡ h) ⊎ ((noted_for h e s count o).0 ≡ noting e s count h)
 noted_either h e s count None = inl refl
@@ -291,8 +289,8 @@ module _ (y : Yard) (n : ℕ) where
       ))
 
   sent_once : (e : Engine) (s : Section) (count change : ℕ) (b : State) (h : Holder) → Wait e s count b (wait_sent b e s count change h none)
-  sent_once e s count change b holder.Nobody = (inl refl, refl)
-  sent_once e s count change b (holder.Engine x) =
+  sent_once e s count change b None = (inl refl, refl)
+  sent_once e s count change b (Some x) =
       cond_both (eqb (home_of b.home.yard x).0 b.home.number.0) _ _ (Wait e s count b) (λ _. waits_once e s count b) (λ _. (inl refl, refl))
 
   wait_once : (from : BoxNumber) (e : Engine) (s : Section) (count change : ℕ) (b : State) → Wait e s count b (wait_at_box b from e s count change none)
@@ -398,10 +396,10 @@ module _ (y : Yard) (n : ℕ) where
   -- THE SAME MESSAGE AGAIN changes nothing of the box, and nothing is recorded of it
   pub received_twice : (b : State) (from : BoxNumber) (m : Message) → InShape y n b → MessageIn y m → BoxTwice (λ z. received_of z from m none) b
   received_twice b from (message.Call c) i mi = called_twice b from c i.calls i.table
-  received_twice b from (message.Answer e k r h c) i mi = answer_twice b from e k r h c i
-  received_twice b from (message.Change s h c) i mi = changed_twice b from s h c i mi.0 mi.1 mi.2
+  received_twice b from (message.Answer e k answer) i mi = answer_twice b from e k answer.reply answer.holder answer.change i
+  received_twice b from (message.Change news) i mi = changed_twice b from news.section news.holder news.change i mi.0 mi.1 mi.2
   received_twice b from (message.WhichChange e s) i mi =
       let asked : Same b (which_at b from e s none) = cond_both (for_us b from e s) _ _ (Same b) (λ _. (refl, refl)) (λ _. (refl, refl)) in
       twice_same NoRecords (λ z. which_at z from e s none) b asked.0 asked.1
-  received_twice b from (message.Sign t k by s) i mi = sign_twice b from t k by s i
-  received_twice b from (message.Waits e s k c) i mi = wait_twice b from e s k c
+  received_twice b from (message.Sign telling) i mi = sign_twice b from telling.to telling.count telling.by telling.sign i
+  received_twice b from (message.Waits waiting) i mi = wait_twice b from waiting.engine waiting.section waiting.count waiting.change

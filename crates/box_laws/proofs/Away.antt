@@ -1,4 +1,5 @@
 -- A refusal said first comes of an event that changes nothing, or of a verdict that changes no section.
+use Rattle.std.specs.Prelude.{None, Some}
 use Rattle.std.proofs.Common.{◌≡◌, ℕ, not, ◌||◌, eqb, leb, List, [], ◌∷◌, ◌++◌, length, Some, None, Ok, Err, Option, Result, sym, refl, ap, ◌∙◌, subst}
 use Rattle.std.proofs.lemmas.Bool.{cond_both}
 use Rattle.messages.specs.declared.yard.BoxNumber.{BoxNumber}
@@ -7,8 +8,7 @@ use Rattle.messages.specs.declared.yard.Section.{Section}
 use Rattle.messages.specs.declared.message.Act.{Act}
 use Rattle.messages.specs.declared.message.Act.TheVariants as act
 use Rattle.messages.specs.declared.message.Call.{Call}
-use Rattle.messages.specs.declared.message.Holder.{Holder}
-use Rattle.messages.specs.declared.message.Holder.TheVariants as holder
+use Rattle.messages.specs.Holder.{Holder}
 use Rattle.messages.specs.declared.message.Message.{Message}
 use Rattle.messages.specs.declared.message.Message.TheVariants as message
 use Rattle.messages.specs.declared.message.Record.TheVariants as journal
@@ -36,8 +36,7 @@ use Rattle.keeper.specs.declared.Verdict.{Verdict}
 use Rattle.keeper.specs.declared.Verdict.TheVariants as verdict
 use Rattle.keeper.proofs.OneCall.{followed}
 use Rattle.home.specs.declared.home.Home.{Home}
-use Rattle.home.specs.declared.home.Note.{Note}
-use Rattle.home.specs.declared.home.Note.TheVariants as note
+use Rattle.home.specs.Noted.{Noted}
 use Rattle.home.specs.Home.{at, is_home, is_ours}
 use Rattle.home.specs.Queries as queries
 use Rattle.home.specs.Queries.{engine, holds_at, note_at}
@@ -49,7 +48,8 @@ use Rattle.journal.specs.declared.output.Output.{Output}
 use Rattle.journal.specs.declared.output.Output.TheVariants as output
 use Rattle.boxes.specs.declared.signal_box.Input.TheVariants as input
 use Rattle.boxes.specs.Log.{Log, none, recorded, said, sent}
-use Rattle.boxes.specs.Emit.{emit_of, home_of, tell_noted, tell_of, tells_of}
+use Rattle.messages.specs.Homes.{home_of}
+use Rattle.boxes.specs.Emit.{emit_of, tell_noted, tell_of, tells_of}
 use Rattle.boxes.specs.Model.{State, with_home, with_keeper}
 use Rattle.boxes.specs.Keeping.{change_to, changes_of, for_us, ruled_log}
 use Rattle.boxes.specs.Handle.{happened, wait_sent}
@@ -78,10 +78,10 @@ speak_push (x ∷ os) o all one = (all.0, speak_push os o all.1 one)
 not_first : (l : Log) → NoRefusal l → RefusedFirst l → ⊥
 not_first l all (q, rest, is) = (subst AllSpeak is all).0
 
-tell_speaks : (h : Home) (by : Engine) (sign : ℕ) (x : Engine) (m : Note) (l : Log) → NoRefusal l → NoRefusal (tell_noted h by sign x m l)
-tell_speaks h by sign x note.Nothing l all = all
-tell_speaks h by sign x (note.Waits s count) l all =
-    cond_both (holds_at h by s) _ _ NoRefusal (λ _. speak_push l.outputs (output.Send (home_of h.yard x) (message.Sign x count by sign)) all tt) (λ _. all)
+tell_speaks : (h : Home) (by : Engine) (sign : ℕ) (x : Engine) (m : Noted) (l : Log) → NoRefusal l → NoRefusal (tell_noted h by sign x m l)
+tell_speaks h by sign x None l all = all
+tell_speaks h by sign x (Some seen) l all =
+    cond_both (holds_at h by seen.section) _ _ NoRefusal (λ _. speak_push l.outputs (output.Send (home_of h.yard x) (message.Sign (record { to = x; count = seen.count; by = by; sign = sign }))) all tt) (λ _. all)
 
 tells_speak : (h : Home) (by : Engine) (sign : ℕ) (l : Log) → NoRefusal l → NoRefusal (tells_of h by sign l)
 tells_speak h by sign l all =
@@ -91,7 +91,7 @@ changes_speak : (b : State) (s : Section) (h : Holder) (change : ℕ) (l : Log) 
 changes_speak b s h change l all =
     each_keeps NoRefusal (λ k. change_to b s h change k) b.home.yard.boxes
     (λ k z lt zi.
-    cond_both (told_of b.home.yard k b.keeper.table s.place) _ _ NoRefusal (λ _. speak_push z.outputs (output.Send (record { 0 = k }) (message.Change s h change)) zi tt) (λ _. zi)) l all
+    cond_both (told_of b.home.yard k b.keeper.table s.place) _ _ NoRefusal (λ _. speak_push z.outputs (output.Send (record { 0 = k }) (message.Change (record { section = s; holder = h; change = change }))) zi tt) (λ _. zi)) l all
 
 -- an event that is a refusal of this box
 abbrev IsRefused : Event → Type 0
@@ -106,9 +106,9 @@ NotBy (event.Had e s) = Unit {0}
 NotBy event.Closed = Unit {0}
 NotBy (event.Called c) = Unit {0}
 NotBy (event.Found c) = Unit {0}
-NotBy (event.Began e s c w n o) = Unit {0}
+NotBy (event.Began start) = Unit {0}
 NotBy (event.Heard e s) = Unit {0}
-NotBy (event.Noted to n by s) = Unit {0}
+NotBy (event.Noted telling) = Unit {0}
 
 refused_event : (h : Home) (v : Event) → NotBy v → RefusedFirst (emit_of h v none) → IsRefused v
 refused_event h event.PassedOver no-report first = absurd (not_first none tt first)
@@ -118,10 +118,10 @@ refused_event h (event.Had e s) no-report first = absurd (not_first (emit_of h (
 refused_event h event.Closed no-report first = absurd (not_first none tt first)
 refused_event h (event.Called c) no-report first = absurd (not_first (emit_of h (event.Called c) none) (tt, tt) first)
 refused_event h (event.Found c) no-report first = absurd (not_first (emit_of h (event.Found c) none) (tt, (tt, tt)) first)
-refused_event h (event.Began e s c w n o) no-report first =
-    absurd (not_first (emit_of h (event.Began e s c w n o) none) (tells_speak h e o (sent (recorded none (journal.Beginning e s c w n o)) s.keeper (message.Waits e s n c)) (tt, tt)) first)
+refused_event h (event.Began start) no-report first =
+    absurd (not_first (emit_of h (event.Began start) none) (tells_speak h start.engine start.own (sent (recorded none (journal.Beginning (record { engine = start.engine; section = start.section; change = start.change; holder = start.holder; count = start.count; own = start.own }))) start.section.keeper (message.Waits (record { engine = start.engine; section = start.section; count = start.count; change = start.change }))) (tt, tt)) first)
 refused_event h (event.Heard e s) no-report first = absurd (not_first (emit_of h (event.Heard e s) none) (tells_speak h e s (recorded none (journal.Heard e s)) tt) first)
-refused_event h (event.Noted to n by s) no-report first = absurd (not_first (emit_of h (event.Noted to n by s) none) (tt, tt) first)
+refused_event h (event.Noted telling) no-report first = absurd (not_first (emit_of h (event.Noted telling) none) (tt, tt) first)
 
 -- what is refused leaves the box as it was, and nothing else is said
 happened_away : (b : State) (i : steps.Input) → NotBy (step_of b.home i).1 → RefusedFirst (happened b (step_of b.home i) none).1 →
@@ -181,8 +181,8 @@ begun_fresh x e s change w (Err r) = tt
 begun_fresh x e s change w (Ok g) = tt
 
 waits_for_fresh : (x : engines.State) (c : Call) (many change : ℕ) (h : Holder) → Fresh (waits_for x c many change h)
-waits_for_fresh x c many change holder.Nobody = tt
-waits_for_fresh x c many change (holder.Engine f) =
+waits_for_fresh x c many change None = tt
+waits_for_fresh x c many change (Some f) =
     cond_both (eqb f.0 c.engine.0) _ _ Fresh (λ _. tt) (λ _. begun_fresh x c.engine c.section change f (begin_of x.signs c.engine.0 many f.0))
 
 -- an answer that is no refusal
@@ -237,11 +237,11 @@ ruled_away b c k (verdict.PassedOn a) f first =
     absurd (not_first (ruled_log (with_keeper b k) c (verdict.PassedOn a) none) (changes_speak (with_keeper b k) c.section a.holder a.change _ (tt, tt)) first)
 
 sent_away : (b : State) (e : Engine) (s : Section) (count change : ℕ) (h : Holder) → Away b (wait_sent b e s count change h none)
-sent_away b e s count change holder.Nobody = λ first. (refl, refl)
-sent_away b e s count change (holder.Engine x) =
+sent_away b e s count change None = λ first. (refl, refl)
+sent_away b e s count change (Some x) =
     cond_both (eqb (home_of b.home.yard x).0 b.home.number.0) _ _ (Away b) (λ _. home_away b (steps.waits e s count) (waits_fresh b.home e s count)) (λ _ _. (refl, refl))
 
-granted : (r : Reply) → (IsReport (message.Answer (engine 0) 0 r holder.Nobody 0) → ⊥) → Granted r
+granted : (r : Reply) → (IsReport (message.Answer (engine 0) 0 (record { reply = r; holder = None; change = 0 })) → ⊥) → Granted r
 granted reply.Done no-report = tt
 granted reply.Waits no-report = tt
 granted (reply.Refused r) no-report = absurd (no-report tt)
@@ -251,13 +251,13 @@ message_away b from (message.Call c) whole long no-report =
     cond_both (for_us b from c.engine c.section) _ _ (Away b)
     (λ _ first. (ruled_away b c (call_of b.keeper c).0 (call_of b.keeper c).1 (followed b.keeper whole long c) first, refl))
     (λ _ _. (refl, refl))
-message_away b from (message.Answer e n r h c) whole long no-report = home_away b (steps.answer from e n r h c) (answer_fresh b.home from e n r h c (granted r no-report))
-message_away b from (message.Change s h c) whole long no-report = absurd (no-report tt)
+message_away b from (message.Answer e n told) whole long no-report = home_away b (steps.answer from e n told.reply told.holder told.change) (answer_fresh b.home from e n told.reply told.holder told.change (granted told.reply no-report))
+message_away b from (message.Change news) whole long no-report = absurd (no-report tt)
 message_away b from (message.WhichChange e s) whole long no-report = cond_both (for_us b from e s) _ _ (Away b) (λ _ _. (refl, refl)) (λ _ _. (refl, refl))
-message_away b from (message.Sign t n by s) whole long no-report = home_away b (steps.sign from t n by s) (sign_fresh b.home from t n by s)
-message_away b from (message.Waits e s n c) whole long no-report =
-    cond_both (eqb s.keeper.0 b.home.number.0) _ _ (Away b)
-    (λ _. cond_both (is_home b.home.yard from e) _ _ (Away b)
-    (λ _. cond_both (eqb c (change_number_at b.keeper.table s.place)) _ _ (Away b) (λ _. sent_away b e s n c (holder_of (holder_at b.keeper.table s.place))) (λ _ _. (refl, refl)))
+message_away b from (message.Sign telling) whole long no-report = home_away b (steps.sign from telling.to telling.count telling.by telling.sign) (sign_fresh b.home from telling.to telling.count telling.by telling.sign)
+message_away b from (message.Waits waiting) whole long no-report =
+    cond_both (eqb waiting.section.keeper.0 b.home.number.0) _ _ (Away b)
+    (λ _. cond_both (is_home b.home.yard from waiting.engine) _ _ (Away b)
+    (λ _. cond_both (eqb waiting.change (change_number_at b.keeper.table waiting.section.place)) _ _ (Away b) (λ _. sent_away b waiting.engine waiting.section waiting.count waiting.change (holder_of (holder_at b.keeper.table waiting.section.place))) (λ _ _. (refl, refl)))
     (λ _ _. (refl, refl)))
-    (λ _. cond_both (eqb from.0 s.keeper.0) _ _ (Away b) (λ _. home_away b (steps.waits e s n) (waits_fresh b.home e s n)) (λ _ _. (refl, refl)))
+    (λ _. cond_both (eqb from.0 waiting.section.keeper.0) _ _ (Away b) (λ _. home_away b (steps.waits waiting.engine waiting.section waiting.count) (waits_fresh b.home waiting.engine waiting.section waiting.count)) (λ _ _. (refl, refl)))

@@ -1,4 +1,5 @@
 -- One engine in shape: what an event tells of it names only what the yard has, and leaves it in shape.
+use Rattle.std.specs.Prelude.{None, Some}
 use Rattle.std.proofs.Common.{◌≡◌, ℕ, ◌+◌, ◌^◌, ◌<◌, ◌≤◌, ◌&&◌, ◌||◌, eqb, ltb, List, length, get_or, is_some, Some, None, Ok, Err, Option, Result, sym, ◌∙◌, subst, inl, inr, arith, length-set}
 use lib.Bits.{bit_and, bit_or, bit_xor}
 use Rattle.std.proofs.lemmas.Bool.{and_parts, cond_both, ltb-true}
@@ -9,8 +10,7 @@ use Rattle.messages.specs.declared.yard.Yard.{Yard}
 use Rattle.messages.specs.declared.message.Act.{Act}
 use Rattle.messages.specs.declared.message.Act.TheVariants as act
 use Rattle.messages.specs.declared.message.Call.{Call}
-use Rattle.messages.specs.declared.message.Holder.{Holder}
-use Rattle.messages.specs.declared.message.Holder.TheVariants as holder
+use Rattle.messages.specs.Holder.{Holder}
 use Rattle.messages.specs.declared.message.Message.TheVariants as message
 use Rattle.messages.specs.declared.message.Record.TheVariants as journal
 use Rattle.messages.specs.declared.message.Refusal.{Refusal}
@@ -23,8 +23,7 @@ use Rattle.signs.specs.declared.Engine as signs
 use Rattle.signs.specs.declared.Refusal as signRefusal
 use Rattle.signs.specs.declared.Heard as sound
 use Rattle.signs.specs.declared.Heard.TheVariants.{TellOn, Found, PassedOver}
-use Rattle.signs.specs.declared.Wait as whom
-use Rattle.signs.specs.declared.Wait.TheVariants.{Nobody, For}
+use Rattle.signs.specs.Signs as whom
 use Rattle.signs.specs.Signs.{begin_of, has_room, listen_of, next_own, out_of_range, waits_by}
 use Rattle.engine_state.specs.declared.places.Places.{Places}
 use Rattle.engine_state.specs.declared.state.Event.{Event}
@@ -49,8 +48,8 @@ ModeIn y (mode.Called a s n) = SectionIn y s × (n < 2 ^ 32)
 ModeIn y (mode.Waiting s c) = SectionIn y s × (c < 2 ^ 32)
 
 abbrev pub WhomIn : Yard → whom.Wait → Type 0
-WhomIn y Nobody = Unit {0}
-WhomIn y (For e) = e < y.engines
+WhomIn y None = Unit {0}
+WhomIn y (Some e) = e < y.engines
 
 -- an engine in shape: its lists are long enough, and its numbers fit their bytes
 pub record Fit (y : Yard) (x : State) : Type 0 where
@@ -73,9 +72,9 @@ EventIn y (event.Had e s) = Unit {0}
 EventIn y event.Closed = Unit {0}
 EventIn y (event.Called c) = CallIn y c
 EventIn y (event.Found c) = CallIn y c
-EventIn y (event.Began e s change whom count own) = RecordIn y (journal.Beginning e s change whom count own)
+EventIn y (event.Began start) = RecordIn y (journal.Beginning (record { engine = start.engine; section = start.section; change = start.change; holder = start.holder; count = start.count; own = start.own }))
 EventIn y (event.Heard e sign) = RecordIn y (journal.Heard e sign)
-EventIn y (event.Noted to count by sign) = MessageIn y (message.Sign to count by sign)
+EventIn y (event.Noted telling) = MessageIn y (message.Sign (record { to = telling.to; count = telling.count; by = telling.by; sign = telling.sign }))
 
 -- the words of a set of sections stay sixteen
 abbrev Wide : Places → Type 0
@@ -125,7 +124,7 @@ module _ (y : Yard) where
       }
 
   pub fit_begun :
-      (x : State) (e : Engine) (s : Section) (change : ℕ) (w : Engine) (count own : ℕ) → Fit y x → RecordIn y (journal.Beginning e s change w count own) →
+      (x : State) (e : Engine) (s : Section) (change : ℕ) (w : Engine) (count own : ℕ) → Fit y x → RecordIn y (journal.Beginning (record { engine = e; section = s; change = change; holder = w; count = count; own = own })) →
       Fit y (state.begun x s change w count own)
   fit_begun x e s change w count own f i =
       record {
@@ -177,9 +176,9 @@ module _ (y : Yard) where
   fit_became e x event.Closed z f i b = subst (Fit y) (sym b) (fit_knowing x known.Closed f)
   fit_became e x (event.Called c) z f i b = subst (Fit y) (sym b.1) (fit_made x c f i)
   fit_became e x (event.Found c) z f i b = subst (Fit y) (sym b.1) (fit_made x c f i)
-  fit_became e x (event.Began g s c w n o) z f i b = subst (Fit y) (sym b.1) (fit_begun x g s c w n o f i)
+  fit_became e x (event.Began start) z f i b = subst (Fit y) (sym b.1) (fit_begun x start.engine start.section start.change start.holder start.count start.own f i)
   fit_became e x (event.Heard g s) z f i b = subst (Fit y) (sym b.2) (fit_heard x s f i.1 b.1)
-  fit_became e x (event.Noted to n by s) z f i b = subst (Fit y) (sym b) f
+  fit_became e x (event.Noted telling) z f i b = subst (Fit y) (sym b) f
 
   -- THE EVENTS: what comes of an answer, a change or a sign in range is in range
   abbrev Gives : State × Event → Type 0
@@ -211,8 +210,8 @@ module _ (y : Yard) where
   begin_in x e engines s change w ei si ci wi = begun_in x e s change w (begin_of x.signs e.0 engines w.0) ei si ci wi (begin_room x.signs e.0 engines w.0)
 
   waits_for_in : (x : State) (c : Call) (engines change : ℕ) (h : Holder) → CallIn y c → change < 2 ^ 32 → HolderIn y h → Gives (waits_for x c engines change h)
-  waits_for_in x c engines change holder.Nobody ci ni hi = tt
-  waits_for_in x c engines change (holder.Engine f) ci ni hi =
+  waits_for_in x c engines change None ci ni hi = tt
+  waits_for_in x c engines change (Some f) ci ni hi =
       cond_both (eqb f.0 c.engine.0) _ _ Gives (λ _. tt) (λ _. begin_in x c.engine engines c.section change f ci.0 ci.1 ni hi)
 
   refused_by_in : (x z : State) (r : Refusal) → Gives (refused_by x z r)
@@ -271,8 +270,8 @@ module _ (y : Yard) where
   answer_in x from e engines n r h change f ei ni hi = answered_in x engines r h change (awaited x from e n) (that_in from n (open_of x e) (open_in x e ei f)) ni hi
 
   passed_in : (x : State) (e : Engine) (engines : ℕ) (s : Section) (change : ℕ) (h : Holder) → EngineIn y e → SectionIn y s → change < 2 ^ 32 → HolderIn y h → Gives (passed_to x e engines s change h)
-  passed_in x e engines s change holder.Nobody ei si ni hi = tt
-  passed_in x e engines s change (holder.Engine w) ei si ni hi = cond_both (eqb w.0 e.0) _ _ Gives (λ _. tt) (λ _. begin_in x e engines s change w ei si ni hi)
+  passed_in x e engines s change None ei si ni hi = tt
+  passed_in x e engines s change (Some w) ei si ni hi = cond_both (eqb w.0 e.0) _ _ Gives (λ _. tt) (λ _. begin_in x e engines s change w ei si ni hi)
 
   pub change_in :
       (x : State) (e : Engine) (engines : ℕ) (s : Section) (h : Holder) (change : ℕ) → EngineIn y e → SectionIn y s → change < 2 ^ 32 → HolderIn y h → EventIn y (change_at x e engines s h change).1
@@ -285,8 +284,8 @@ module _ (y : Yard) where
   WaitsIn (Some w) = SectionIn y w.section × EngineIn y w.whom × (w.count < 2 ^ 32) × (w.change < 2 ^ 32)
 
   wait_for_in : (w : whom.Wait) (s : Section) (count change : ℕ) → WhomIn y w → SectionIn y s → count < 2 ^ 32 → change < 2 ^ 32 → WaitsIn (wait_for w s count change)
-  wait_for_in Nobody s count change wi si ni ci = tt
-  wait_for_in (For e) s count change wi si ni ci = (si, wi, ni, ci)
+  wait_for_in None s count change wi si ni ci = tt
+  wait_for_in (Some e) s count change wi si ni ci = (si, wi, ni, ci)
 
   wait_of_mode_in : (m : Mode) (w : whom.Wait) (count : ℕ) → ModeIn y m → WhomIn y w → count < 2 ^ 32 → WaitsIn (wait_of_mode m w count)
   wait_of_mode_in mode.Idle w count mi wi ni = tt

@@ -1,4 +1,5 @@
 -- A home in shape: each input leaves it so, by what its event tells; and what is recorded and sent of the event is in range.
+use Rattle.std.specs.Prelude.{None, Some}
 use Rattle.std.proofs.Common.{◌≡◌, ℕ, zero, suc, ◌%◌, ◌^◌, ◌<◌, Bool, true, false, cond, not, ◌||◌, eqb, ltb, leb, List, [], ◌∷◌, map, length, get_or, set, replicate, Some, None, Ok, Err, Option, Result, sym, refl, ap, ◌∙◌, subst, inl, inr, arith, length-set}
 use Rattle.std.proofs.lemmas.Nat.{mod_below}
 use Rattle.std.proofs.lemmas.List.{get_or_past, get_or-replicate, length-map, length-replicate}
@@ -8,7 +9,7 @@ use Rattle.messages.specs.declared.yard.Engine.{Engine}
 use Rattle.messages.specs.declared.yard.Section.{Section}
 use Rattle.messages.specs.declared.yard.Yard.{Yard}
 use Rattle.messages.specs.declared.message.Call.{Call}
-use Rattle.messages.specs.declared.message.Holder.{Holder}
+use Rattle.messages.specs.Holder.{Holder}
 use Rattle.messages.specs.declared.message.Message.TheVariants as message
 use Rattle.messages.specs.declared.message.Record.TheVariants as journal
 use Rattle.messages.specs.declared.message.Refusal.{Refusal}
@@ -16,7 +17,6 @@ use Rattle.messages.specs.declared.message.Reply.{Reply}
 use Rattle.messages.specs.Range.{CallIn, EngineIn, HolderIn, SectionIn}
 use Rattle.sections.proofs.Tables.{set_read}
 use Rattle.signs.specs.declared.Engine as signs
-use Rattle.signs.specs.declared.Wait.TheVariants.{Nobody}
 use Rattle.signs.specs.Table as table
 use Rattle.signs.proofs.Places.{fresh_signs}
 use Rattle.engine_state.specs.declared.state.Event.{Event}
@@ -29,8 +29,7 @@ use Rattle.engine_state.specs.Places.{same_section}
 use Rattle.engine_state.specs.State.{blank, made, unread}
 use Rattle.engine_state.specs.Inputs.{answer_at, change_at, sign_at}
 use Rattle.home.specs.declared.home.Home.{Home}
-use Rattle.home.specs.declared.home.Note.{Note}
-use Rattle.home.specs.declared.home.Note.TheVariants as note
+use Rattle.home.specs.Noted.{Noted}
 use Rattle.home.specs.Home.{at, fresh_home, is_home, is_ours, made_of, with}
 use Rattle.home.specs.Queries.{engine, holder_of, holds_at, note_at, open_at, wait_at}
 use Rattle.home.specs.Inputs.{answer_of, at_ours, change_of, free_of, freed, freeing, has_section, is_older, noted_for, sign_of, take_of, taken, taking, unless_for, waits_of, with_notes}
@@ -39,7 +38,8 @@ use Rattle.home_laws.specs.Told.{Tells}
 use Rattle.home_laws.proofs.Puts.{put_in_one}
 use Rattle.home_laws.proofs.Telling.{event_tells}
 use Rattle.boxes.specs.Log.{Log, recorded, said, sent}
-use Rattle.boxes.specs.Emit.{emit_of, home_of, tell_noted, tell_of, tells_of}
+use Rattle.messages.specs.Homes.{home_of}
+use Rattle.boxes.specs.Emit.{emit_of, tell_noted, tell_of, tells_of}
 use Rattle.boxes.specs.Handle.{open_again, second_for, second_of, tell_again, wait_again}
 use Rattle.journal.specs.declared.output.Output.TheVariants as output
 use Rattle.box_laws.proofs.Logs.{LogIn, each_keeps, recorded_in, said_in, sent_in}
@@ -61,9 +61,9 @@ use Rattle.box_laws.proofs.Engines.{
 }
 
 -- what is noted can be told
-abbrev pub NoteIn : Yard → Note → Type 0
-NoteIn y note.Nothing = Unit {0}
-NoteIn y (note.Waits s count) = SectionIn y s × (count < 2 ^ 32)
+abbrev pub NoteIn : Yard → Noted → Type 0
+NoteIn y None = Unit {0}
+NoteIn y (Some seen) = SectionIn y seen.section × (seen.count < 2 ^ 32)
 
 pub record HomeShape (y : Yard) (n : ℕ) (h : Home) : Type 0 where
   pub yard : h.yard ≡ y
@@ -73,7 +73,7 @@ pub record HomeShape (y : Yard) (n : ℕ) (h : Home) : Type 0 where
   pub known : length h.known ≡ 64
   pub notes : length h.notes ≡ 64
   pub fits : (e : Engine) → e.0 < 64 → Fit y (at h e)
-  pub noted : (k : ℕ) → NoteIn y (get_or h.notes k note.Nothing)
+  pub noted : (k : ℕ) → NoteIn y (get_or h.notes k None)
 
 pub sized : {y : Yard} {n : ℕ} {h : Home} → HomeShape y n h → puts.Sized h
 sized i = record { signs = i.signs; stored = i.stored; known = i.known }
@@ -103,7 +103,7 @@ module _ (y : Yard) (n : ℕ) where
             | inr q ↦ subst (Fit y) (sym (put.2 k q)) (i.fits k lt)
           ]
 
-  pub notes_shape : (h : Home) (xs : List Note) → HomeShape y n h → length xs ≡ 64 → ((k : ℕ) → NoteIn y (get_or xs k note.Nothing)) → HomeShape y n (with_notes h xs)
+  pub notes_shape : (h : Home) (xs : List Noted) → HomeShape y n h → length xs ≡ 64 → ((k : ℕ) → NoteIn y (get_or xs k None)) → HomeShape y n (with_notes h xs)
   notes_shape h xs i long all =
       record { yard = i.yard; number = i.number; signs = i.signs; stored = i.stored; known = i.known; notes = long; fits = i.fits; noted = all }
 
@@ -154,11 +154,11 @@ module _ (y : Yard) (n : ℕ) where
       taken_steps h (taking h e s) i
       (cond_both (is_ours h e) _ _ (ResultIn y) (λ ours. cond_both (has_section h s) _ _ (ResultIn y) (λ has. take_in y (at h e) e s (ours_in h e i ours) (has_in h s i has)) (λ _. tt)) (λ _. tt))
 
-  unless_in : (s : Section) (x : Note) → NoteIn y x → NoteIn y (unless_for s x)
-  unless_in s note.Nothing xi = tt
-  unless_in s (note.Waits t count) xi = cond_both (same_section t s) _ _ (NoteIn y) (λ _. tt) (λ _. xi)
+  unless_in : (s : Section) (x : Noted) → NoteIn y x → NoteIn y (unless_for s x)
+  unless_in s None xi = tt
+  unless_in s (Some seen) xi = cond_both (same_section seen.section s) _ _ (NoteIn y) (λ _. tt) (λ _. xi)
 
-  dropped_in : (s : Section) (xs : List Note) → ((k : ℕ) → NoteIn y (get_or xs k note.Nothing)) → (k : ℕ) → NoteIn y (get_or (map (unless_for s) xs) k note.Nothing)
+  dropped_in : (s : Section) (xs : List Noted) → ((k : ℕ) → NoteIn y (get_or xs k None)) → (k : ℕ) → NoteIn y (get_or (map (unless_for s) xs) k None)
   dropped_in s [] all k = tt
   dropped_in s (x ∷ xs) all zero = unless_in s x (all 0)
   dropped_in s (x ∷ xs) all (suc k) = dropped_in s xs (λ j. all (suc j)) k
@@ -198,8 +198,8 @@ module _ (y : Yard) (n : ℕ) where
       (λ _. cond_both (is_ours h by) _ _ Steps
       (λ ours.
       let bi = ours_in h by i ours in (
-        notes_shape h (set h.notes e.0 (note.Waits s count)) i (length-set h.notes e.0 (note.Waits s count) ∙ i.notes)
-            (λ k. elim (set_read note.Nothing h.notes e.0 (note.Waits s count) k) [ inl r ↦ rw r.1 (si, ni) | inr r ↦ rw r (i.noted k) ]),
+        notes_shape h (set h.notes e.0 (Some (record { section = s; count = count }))) i (length-set h.notes e.0 (Some (record { section = s; count = count })) ∙ i.notes)
+            (λ k. elim (set_read None h.notes e.0 (Some (record { section = s; count = count })) k) [ inl r ↦ rw r.1 (si, ni) | inr r ↦ rw r (i.noted k) ]),
         (ei, ni, bi, (i.fits by (below by bi)).shown),
       ))
       (λ _. (i, tt)))
@@ -209,10 +209,10 @@ module _ (y : Yard) (n : ℕ) where
       cond_both (leb h.yard.engines e.0 || not (has_section h s)) _ _ Steps (λ _. (i, tt)) (λ _. noted_steps h e s count (holder_of h s) i ei si ni)
 
   -- WHAT IS SAID of an event
-  tell_noted_in : (h : Home) (by : Engine) (sign : ℕ) (x : Engine) (m : Note) (l : Log) → HomeShape y n h → EngineIn y by → sign < 2 ^ 64 → EngineIn y x → NoteIn y m → LogIn y l → LogIn y (tell_noted h by sign x m l)
-  tell_noted_in h by sign x note.Nothing l i bi si xi mi fine = fine
-  tell_noted_in h by sign x (note.Waits s count) l i bi si xi mi fine =
-      cond_both (holds_at h by s) _ _ (LogIn y) (λ _. sent_in y l (home_of h.yard x) (message.Sign x count by sign) fine (home_in h x i) (xi, mi.1, bi, si)) (λ _. fine)
+  tell_noted_in : (h : Home) (by : Engine) (sign : ℕ) (x : Engine) (m : Noted) (l : Log) → HomeShape y n h → EngineIn y by → sign < 2 ^ 64 → EngineIn y x → NoteIn y m → LogIn y l → LogIn y (tell_noted h by sign x m l)
+  tell_noted_in h by sign x None l i bi si xi mi fine = fine
+  tell_noted_in h by sign x (Some seen) l i bi si xi mi fine =
+      cond_both (holds_at h by seen.section) _ _ (LogIn y) (λ _. sent_in y l (home_of h.yard x) (message.Sign (record { to = x; count = seen.count; by = by; sign = sign })) fine (home_in h x i) (xi, mi.1, bi, si)) (λ _. fine)
 
   note_at_in : (h : Home) (x : Engine) → HomeShape y n h → NoteIn y (note_at h x)
   note_at_in h x i = cond_both (ltb x.0 64) _ _ (NoteIn y) (λ _. i.noted x.0) (λ _. tt)
@@ -232,12 +232,12 @@ module _ (y : Yard) (n : ℕ) where
   emit_in h (event.Found c) l i vi fine =
       sent_in y (said (recorded l (journal.Made c)) (output.GiveBack c.engine)) c.section.keeper (message.Call c)
       (said_in y (recorded l (journal.Made c)) (output.GiveBack c.engine) (recorded_in y l (journal.Made c) fine vi) tt) vi.1.0 vi
-  emit_in h (event.Began e s change whom count own) l i vi fine =
-      tells_in h e own (sent (recorded l (journal.Beginning e s change whom count own)) s.keeper (message.Waits e s count change)) i vi.0 vi.5
-      (sent_in y (recorded l (journal.Beginning e s change whom count own)) s.keeper (message.Waits e s count change)
-      (recorded_in y l (journal.Beginning e s change whom count own) fine vi) vi.1.0 (vi.0, vi.1, vi.4, vi.2))
+  emit_in h (event.Began start) l i vi fine =
+      tells_in h start.engine start.own (sent (recorded l (journal.Beginning (record { engine = start.engine; section = start.section; change = start.change; holder = start.holder; count = start.count; own = start.own }))) start.section.keeper (message.Waits (record { engine = start.engine; section = start.section; count = start.count; change = start.change }))) i vi.0 vi.5
+      (sent_in y (recorded l (journal.Beginning (record { engine = start.engine; section = start.section; change = start.change; holder = start.holder; count = start.count; own = start.own }))) start.section.keeper (message.Waits (record { engine = start.engine; section = start.section; count = start.count; change = start.change }))
+      (recorded_in y l (journal.Beginning (record { engine = start.engine; section = start.section; change = start.change; holder = start.holder; count = start.count; own = start.own })) fine vi) vi.1.0 (vi.0, vi.1, vi.4, vi.2))
   emit_in h (event.Heard e sign) l i vi fine = tells_in h e sign (recorded l (journal.Heard e sign)) i vi.0 vi.1 (recorded_in y l (journal.Heard e sign) fine vi)
-  emit_in h (event.Noted to count by sign) l i vi fine = sent_in y l (home_of h.yard to) (message.Sign to count by sign) fine (home_in h to i) vi
+  emit_in h (event.Noted telling) l i vi fine = sent_in y l (home_of h.yard telling.to) (message.Sign (record { to = telling.to; count = telling.count; by = telling.by; sign = telling.sign })) fine (home_in h telling.to i) vi
 
   -- WHAT IS SAID of a second
   open_again_in : (o : Option Call) (l : Log) → CallsIn y o → LogIn y l → LogIn y (open_again o l)
@@ -247,8 +247,8 @@ module _ (y : Yard) (n : ℕ) where
   wait_again_in : (e : Engine) (o : Option Wait) (l : Log) → EngineIn y e → WaitsIn y o → LogIn y l → LogIn y (wait_again e o l)
   wait_again_in e None l ei wi fine = fine
   wait_again_in e (Some w) l ei wi fine =
-      sent_in y (sent l w.section.keeper (message.Waits e w.section w.count w.change)) w.section.keeper (message.WhichChange e w.section)
-      (sent_in y l w.section.keeper (message.Waits e w.section w.count w.change) fine wi.0.0 (ei, wi.0, wi.2, wi.3)) wi.0.0 (ei, wi.0)
+      sent_in y (sent l w.section.keeper (message.Waits (record { engine = e; section = w.section; count = w.count; change = w.change }))) w.section.keeper (message.WhichChange e w.section)
+      (sent_in y l w.section.keeper (message.Waits (record { engine = e; section = w.section; count = w.count; change = w.change })) fine wi.0.0 (ei, wi.0, wi.2, wi.3)) wi.0.0 (ei, wi.0)
 
   tell_again_in : (h : Home) (e : Engine) (t : Bool) (l : Log) → HomeShape y n h → EngineIn y e → LogIn y l → LogIn y (tell_again h e (cond t (Some (at h e).signs) None) l)
   tell_again_in h e true l i ei fine = tells_in h e (at h e).signs.shown l i ei (i.fits e (below e ei)).shown fine
@@ -270,7 +270,7 @@ module _ (y : Yard) (n : ℕ) where
 pub everywhere : {X : Type 0} (n : ℕ) (x : X) (i : ℕ) → get_or (replicate n x) i x ≡ x
 everywhere n x i = elim (cases_lt i n) [ inl h ↦ get_or-replicate n i x x h | inr h ↦ get_or_past (replicate n x) i x (rw (length-replicate n x) h) ]
 
-blank_fit : (y : Yard) (e : ℕ) (k : Known) (st : Stored) (g : signs.Engine) → e < 64 → st ≡ blank → g ≡ record { wait = Nobody; count = 0; shown = e; own = e } →
+blank_fit : (y : Yard) (e : ℕ) (k : Known) (st : Stored) (g : signs.Engine) → e < 64 → st ≡ blank → g ≡ record { wait = None; count = 0; shown = e; own = e } →
     Fit y (record { stored = st; known = k; signs = g })
 blank_fit y e k st g lt p q =
     subst (λ (z : Stored). Fit y (record { stored = z; known = k; signs = g })) (sym p)
@@ -298,5 +298,5 @@ fresh_home_shape y b =
       known = refl;
       notes = refl;
       fits = λ e lt. blank_fit y e.0 _ _ _ lt (get_or-replicate 64 e.0 blank unread lt) (fresh_signs.1 e.0 lt);
-      noted = λ k. subst (NoteIn y) (sym (everywhere 64 note.Nothing k)) tt;
+      noted = λ k. subst (NoteIn y) (sym (everywhere 64 None k)) tt;
     }

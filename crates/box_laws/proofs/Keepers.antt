@@ -1,4 +1,5 @@
 -- A keeper in shape: a call of an engine of the yard leaves its tables whole and its numbers within their bytes.
+use Rattle.std.specs.Prelude.{None, Some}
 use Rattle.std.proofs.Common.{◌≡◌, ℕ, ◌+◌, ◌^◌, ◌<◌, true, eqb, ◌⊎◌, [], length, Some, None, Ok, Err, Option, Result, sym, refl, ◌∙◌, subst, inl, inr, arith, length-set}
 use Rattle.std.proofs.lemmas.Bool.{cond_both, ltb-true}
 use Rattle.messages.specs.declared.yard.Yard.{Yard}
@@ -8,8 +9,7 @@ use Rattle.messages.specs.declared.message.Call.{Call}
 use Rattle.messages.specs.Range.{CallIn}
 use Rattle.sections.specs.declared.Done.{Done}
 use Rattle.sections.specs.declared.Done.TheVariants as did
-use Rattle.sections.specs.declared.Holder.{Holder}
-use Rattle.sections.specs.declared.Holder.TheVariants as has
+use Rattle.sections.specs.Table.{Holder}
 use Rattle.sections.specs.declared.Refusal.{Refusal}
 use Rattle.sections.specs.declared.Refusal.TheVariants as refused
 use Rattle.sections.specs.Table.{
@@ -71,12 +71,12 @@ room : (s : Section) → changeable s ≡ true → s.change + 1 < 2 ^ 32
 room s h = let z = ltb-true s.change 4294967295 h in omega arith
 
 take_in : (by : Holder) (s : Section) (e : ℕ) → s.change < 2 ^ 32 → OutcomeIn (take_by by s e)
-take_in has.Free s e i = cond_both (changeable s) _ _ OutcomeIn (λ h. room s h) (λ _. tt)
-take_in (has.Engine f) s e i = cond_both (eqb f e) _ _ OutcomeIn (λ _. tt) (λ _. i)
+take_in None s e i = cond_both (changeable s) _ _ OutcomeIn (λ h. room s h) (λ _. tt)
+take_in (Some f) s e i = cond_both (eqb f e) _ _ OutcomeIn (λ _. tt) (λ _. i)
 
 free_in : (by : Holder) (s : Section) (e : ℕ) → OutcomeIn (free_by by s e)
-free_in has.Free s e = tt
-free_in (has.Engine f) s e = cond_both (eqb f e) _ _ OutcomeIn (λ _. cond_both (changeable s) _ _ OutcomeIn (λ h. room s h) (λ _. tt)) (λ _. tt)
+free_in None s e = tt
+free_in (Some f) s e = cond_both (eqb f e) _ _ OutcomeIn (λ _. cond_both (changeable s) _ _ OutcomeIn (λ h. room s h) (λ _. tt)) (λ _. tt)
 
 unless_in : (r : Option Refusal) (o : Outcome) → OutcomeIn o → OutcomeIn (unless r o)
 unless_in (Some r) o i = tt
@@ -107,8 +107,8 @@ do_long act.GiveUp t e p = settle_length t p (give_up_outcome t e p)
 verdict_change : (t : Table) (p : ℕ) (r : Result Done Refusal) → Changes t → ChangeIn (verdict_of (answer_of t p r) r)
 verdict_change t p (Ok did.Had) all = all p
 verdict_change t p (Ok (did.Waits x)) all = all p
-verdict_change t p (Ok (did.LetGo has.Free)) all = all p
-verdict_change t p (Ok (did.LetGo (has.Engine x))) all = all p
+verdict_change t p (Ok (did.LetGo None)) all = all p
+verdict_change t p (Ok (did.LetGo (Some x))) all = all p
 verdict_change t p (Ok did.Left) all = all p
 verdict_change t p (Err refused.OutOfRange) all = tt
 verdict_change t p (Err refused.Waiting) all = all p

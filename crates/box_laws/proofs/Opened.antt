@@ -1,4 +1,5 @@
 -- A box that comes up from its records has what was stored and nothing else: it is in shape if the box that wrote them was.
+use Rattle.std.specs.Prelude.{None}
 use Rattle.std.proofs.Common.{◌≡◌, ℕ, Bool, eqb, List, [], ◌∷◌, length, get_or, set, replicate, Ok, sym, refl, ap, ◌∙◌, subst}
 use Rattle.std.proofs.lemmas.List.{set-get_or}
 use Rattle.std.proofs.lemmas.Bool.{cond_both}
@@ -15,8 +16,7 @@ use Rattle.engine_state.specs.declared.state.State as engines
 use Rattle.engine_state.specs.declared.state.Stored.{Stored}
 use Rattle.engine_state.specs.State.{unread}
 use Rattle.home.specs.declared.home.Home.{Home}
-use Rattle.home.specs.declared.home.Note.{Note}
-use Rattle.home.specs.declared.home.Note.TheVariants as note
+use Rattle.home.specs.Noted.{Noted}
 use Rattle.home.specs.Home.{apply_of, at, is_ours}
 use Rattle.home.specs.Queries.{engine, giving_back_at}
 use Rattle.journal.specs.declared.output.Output.TheVariants as output
@@ -34,7 +34,7 @@ use Rattle.box_laws.proofs.Shape.{InShape, shaped}
 
 -- nothing is known besides what is stored, and nothing is noted
 abbrev pub Bare : Home → Type 0
-Bare h = (h.known ≡ replicate 64 known.Pending) × (h.notes ≡ replicate 64 note.Nothing)
+Bare h = (h.known ≡ replicate 64 known.Pending) × (h.notes ≡ replicate 64 None)
 
 set_same : (ks : List Known) (e : ℕ) → ks ≡ replicate 64 known.Pending → set ks e known.Pending ≡ replicate 64 known.Pending
 set_same ks e q = ap (λ (xs : List Known). set xs e known.Pending) q ∙ ap (set (replicate 64 known.Pending) e) (sym (everywhere 64 known.Pending e)) ∙ set-get_or (replicate 64 known.Pending) e known.Pending
@@ -42,7 +42,7 @@ set_same ks e q = ap (λ (xs : List Known). set xs e known.Pending) q ∙ ap (se
 apply_bare : (h : Home) (r : Record) → Bare h → Bare (apply_of h r)
 apply_bare h (journal.Kept c) i = i
 apply_bare h (journal.Made c) i = cond_both (is_ours h c.engine) _ _ Bare (λ _. (set_same h.known c.engine.0 i.0, i.1)) (λ _. i)
-apply_bare h (journal.Beginning e s change whom count own) i = cond_both (is_ours h e) _ _ Bare (λ _. (set_same h.known e.0 i.0, i.1)) (λ _. i)
+apply_bare h (journal.Beginning start) i = cond_both (is_ours h start.engine) _ _ Bare (λ _. (set_same h.known start.engine.0 i.0, i.1)) (λ _. i)
 apply_bare h (journal.Heard e sign) i = cond_both (is_ours h e) _ _ Bare (λ _. (set-get_or h.known e.0 known.Pending ∙ i.0, i.1)) (λ _. i)
 
 again_bare : (b : State) (r : Record) → Bare b.home → Bare (home_again b r).0.home
@@ -51,7 +51,7 @@ again_bare b r i = cond_both (is_sound b.home r) _ _ (λ (p : State × Bool). Ba
 replay_bare : (b : State) (r : Record) → Bare b.home → Bare (replay_of b r).0.home
 replay_bare b (journal.Kept c) i = cond_both (eqb c.section.keeper.0 b.home.number.0) _ _ (λ (p : State × Bool). Bare p.0.home) (λ _. i) (λ _. i)
 replay_bare b (journal.Made c) i = again_bare b (journal.Made c) i
-replay_bare b (journal.Beginning e s change whom count own) i = again_bare b (journal.Beginning e s change whom count own) i
+replay_bare b (journal.Beginning start) i = again_bare b (journal.Beginning start) i
 replay_bare b (journal.Heard e sign) i = again_bare b (journal.Heard e sign) i
 
 pub replays_bare : (rs : List Record) (b c : State) → Replays b rs c → Bare b.home → Bare c.home
@@ -90,7 +90,7 @@ shape_opened y n rs b c i q same =
       known = ap length bare.0;
       notes = ap length bare.1;
       fits = λ e lt. fit_known y (at c.home e) _ _ _ (ap (λ (z : List Stored). get_or z e.0 unread) same.stored) (ap (λ (z : Engines). table.engine_at z e.0) same.signs) (i.engines.fits e lt);
-      noted = λ k. subst (λ (xs : List Note). NoteIn y (get_or xs k note.Nothing)) (sym bare.1) (subst (NoteIn y) (sym (everywhere 64 note.Nothing k)) tt);
+      noted = λ k. subst (λ (xs : List Noted). NoteIn y (get_or xs k None)) (sym bare.1) (subst (NoteIn y) (sym (everywhere 64 None k)) tt);
     })
     (subst (KeeperShape y) (sym same.keeper) i.sections)
   where

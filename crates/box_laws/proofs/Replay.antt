@@ -1,4 +1,5 @@
 -- The records that a box writes, read back one after another, make what is stored of it.
+use Rattle.std.specs.Prelude.{None, Some}
 use Rattle.std.proofs.Common.{◌≡◌, ℕ, ◌+◌, ◌%◌, Bool, true, false, cond, not, ◌&&◌, ◌||◌, eqb, ltb, leb, List, [], ◌∷◌, ◌++◌, length, get_or, set, Some, None, Ok, Err, Option, Result, sym, refl, ap, ◌∙◌, subst, arith}
 use Rattle.std.proofs.lemmas.List.{append-nil}
 use Rattle.std.proofs.lemmas.Bool.{and_parts, both_ways, cond_both, cond-true}
@@ -8,8 +9,7 @@ use Rattle.messages.specs.declared.yard.Engine.{Engine}
 use Rattle.messages.specs.declared.yard.Section.{Section}
 use Rattle.messages.specs.declared.yard.Yard.{Yard}
 use Rattle.messages.specs.declared.message.Call.{Call}
-use Rattle.messages.specs.declared.message.Holder.{Holder}
-use Rattle.messages.specs.declared.message.Holder.TheVariants as holder
+use Rattle.messages.specs.Holder.{Holder}
 use Rattle.messages.specs.declared.message.Message.{Message}
 use Rattle.messages.specs.declared.message.Message.TheVariants as message
 use Rattle.messages.specs.declared.message.Record.{Record}
@@ -19,7 +19,6 @@ use Rattle.messages.specs.declared.message.Refusal.TheVariants as refusal
 use Rattle.messages.specs.Reading.{message_of}
 use Rattle.sections.specs.Table.{change_number_at, holder_at}
 use Rattle.signs.specs.declared.Engine as sign
-use Rattle.signs.specs.declared.Wait.TheVariants.{For}
 use Rattle.signs.specs.declared.table.Engines.{Engines}
 use Rattle.signs.specs.Signs.{idle, showing}
 use Rattle.signs.specs.Table as table
@@ -40,8 +39,7 @@ use Rattle.keeper.specs.declared.Verdict.{Verdict}
 use Rattle.keeper.specs.declared.Verdict.TheVariants as verdict
 use Rattle.keeper.proofs.OneCall.{followed}
 use Rattle.home.specs.declared.home.Home.{Home}
-use Rattle.home.specs.declared.home.Note.{Note}
-use Rattle.home.specs.declared.home.Note.TheVariants as note
+use Rattle.home.specs.Noted.{Noted}
 use Rattle.home.specs.Home.{apply_of, at, is_home, is_ours, with}
 use Rattle.home.specs.Queries.{engine, holds_at, note_at}
 use Rattle.home.specs.Queries as queries
@@ -52,7 +50,8 @@ use Rattle.home_laws.proofs.Steps.{stored_by_record}
 use Rattle.boxes.specs.declared.signal_box.Input.{Input}
 use Rattle.boxes.specs.declared.signal_box.Input.TheVariants as input
 use Rattle.boxes.specs.Log.{Log, none}
-use Rattle.boxes.specs.Emit.{emit_of, home_of, tell_noted, tell_of, tells_of}
+use Rattle.messages.specs.Homes.{home_of}
+use Rattle.boxes.specs.Emit.{emit_of, tell_noted, tell_of, tells_of}
 use Rattle.boxes.specs.Model.{State, with_home, with_keeper}
 use Rattle.boxes.specs.Keeping.{called_at, change_to, changes_of, for_us, refused, ruled_log}
 use Rattle.boxes.specs.Handle.{
@@ -127,7 +126,7 @@ ours_same h g p q e = ap (λ (y : Yard). is_home y h.number e) p ∙ ap (λ (n :
 sound_same : (h g : Home) → h.yard ≡ g.yard → h.number ≡ g.number → h.stored ≡ g.stored → (r : Record) → is_sound h r ≡ is_sound g r
 sound_same h g p q s (journal.Kept c) = refl
 sound_same h g p q s (journal.Made c) = next_same h.yard g.yard h.number g.number h.stored g.stored p q s c
-sound_same h g p q s (journal.Beginning e place change whom count own) = leaves_same h.yard g.yard h.number g.number p q e own
+sound_same h g p q s (journal.Beginning start) = leaves_same h.yard g.yard h.number g.number p q start.engine start.own
 sound_same h g p q s (journal.Heard e sign) = ours_same h g p q e
 
 -- what a change of one engine makes of what is stored, whatever is known besides
@@ -162,9 +161,9 @@ apply_same : (h g : Home) → h.yard ≡ g.yard → h.number ≡ g.number → st
 apply_same h g p q same (journal.Kept c) = same
 apply_same h g p q same (journal.Made c) =
     applied_same h g c.engine (λ x. made x c) (λ x. stored_after x c) idle (λ x. refl) (λ x. refl) (ours_same h g p q c.engine) same
-apply_same h g p q same (journal.Beginning e s change whom count own) =
-    applied_same h g e (λ x. begun x s change whom count own) (λ x. record { mode = mode.Waiting s change; used = x.used; kept = x.kept; asked = x.asked })
-    (λ x. record { wait = For whom.0; count = count; shown = own; own = own }) (λ x. refl) (λ x. refl) (ours_same h g p q e) same
+apply_same h g p q same (journal.Beginning start) =
+    applied_same h g start.engine (λ x. begun x start.section start.change start.holder start.count start.own) (λ x. record { mode = mode.Waiting start.section start.change; used = x.used; kept = x.kept; asked = x.asked })
+    (λ x. record { wait = Some start.holder.0; count = start.count; shown = start.own; own = start.own }) (λ x. refl) (λ x. refl) (ours_same h g p q start.engine) same
 apply_same h g p q same (journal.Heard e sign) = applied_same h g e (λ x. heard x sign) (λ x. x) (λ x. showing x sign) (λ x. refl) (λ x. refl) (ours_same h g p q e) same
 
 -- a record and an input leave a home its yard and its number
@@ -174,7 +173,7 @@ SameName h g = (g.yard ≡ h.yard) × (g.number ≡ h.number)
 apply_name : (h : Home) (r : Record) → SameName h (apply_of h r)
 apply_name h (journal.Kept c) = (refl, refl)
 apply_name h (journal.Made c) = cond_both (is_ours h c.engine) _ _ (SameName h) (λ _. (refl, refl)) (λ _. (refl, refl))
-apply_name h (journal.Beginning e s change whom count own) = cond_both (is_ours h e) _ _ (SameName h) (λ _. (refl, refl)) (λ _. (refl, refl))
+apply_name h (journal.Beginning start) = cond_both (is_ours h start.engine) _ _ (SameName h) (λ _. (refl, refl)) (λ _. (refl, refl))
 apply_name h (journal.Heard e sign) = cond_both (is_ours h e) _ _ (SameName h) (λ _. (refl, refl)) (λ _. (refl, refl))
 
 abbrev pub Named : Home → Home × Event → Type 0
@@ -210,9 +209,9 @@ abbrev pub listed : Option Record → List Record
 listed None = []
 listed (Some r) = r ∷ []
 
-tell_records : (h : Home) (by : Engine) (sign : ℕ) (x : Engine) (m : Note) (l : Log) → (tell_noted h by sign x m l).records ≡ l.records
-tell_records h by sign x note.Nothing l = refl
-tell_records h by sign x (note.Waits s count) l = cond_both (holds_at h by s) _ _ (λ (z : Log). z.records ≡ l.records) (λ _. refl) (λ _. refl)
+tell_records : (h : Home) (by : Engine) (sign : ℕ) (x : Engine) (m : Noted) (l : Log) → (tell_noted h by sign x m l).records ≡ l.records
+tell_records h by sign x None l = refl
+tell_records h by sign x (Some seen) l = cond_both (holds_at h by seen.section) _ _ (λ (z : Log). z.records ≡ l.records) (λ _. refl) (λ _. refl)
 
 tells_records : (h : Home) (by : Engine) (sign : ℕ) (l : Log) → (tells_of h by sign l).records ≡ l.records
 tells_records h by sign l =
@@ -226,9 +225,9 @@ emit_records h (event.Had e s) l = sym (append-nil l.records)
 emit_records h event.Closed l = sym (append-nil l.records)
 emit_records h (event.Called c) l = refl
 emit_records h (event.Found c) l = refl
-emit_records h (event.Began e s c w n o) l = tells_records h e o _
+emit_records h (event.Began start) l = tells_records h start.engine start.own _
 emit_records h (event.Heard e s) l = tells_records h e s _
-emit_records h (event.Noted to n by s) l = sym (append-nil l.records)
+emit_records h (event.Noted telling) l = sym (append-nil l.records)
 
 -- the same of a box with another home
 abbrev stored_pair : (b c : State) → SameStored b c → stored_of b.home ≡ stored_of c.home
@@ -238,7 +237,7 @@ stored_pair b c q = ap (λ (z : Engines). (z, b.home.stored)) q.signs ∙ ap (λ
 home_replay : (c : State) (r : Record) → is_sound c.home r ≡ true → replay_of c r ≡ (with_home c (apply_of c.home r), true)
 home_replay c (journal.Kept d) is = absurd (both_ways false refl is)
 home_replay c (journal.Made d) is = cond-true (is_sound c.home (journal.Made d)) _ _ is
-home_replay c (journal.Beginning e s change whom count own) is = cond-true (is_sound c.home (journal.Beginning e s change whom count own)) _ _ is
+home_replay c (journal.Beginning start) is = cond-true (is_sound c.home (journal.Beginning start)) _ _ is
 home_replay c (journal.Heard e sign) is = cond-true (is_sound c.home (journal.Heard e sign)) _ _ is
 
 changes_records : (b : State) (s : Section) (h : Holder) (change : ℕ) (l : Log) → (changes_of b s h change l).records ≡ l.records
@@ -362,8 +361,8 @@ module _ (start : State) where
       (λ _. refused_backed b l i)
 
   sent_backed : (b : State) (e : Engine) (s : Section) (count change : ℕ) (h : Holder) (l : Log) → Backed (b, l) → Backed (wait_sent b e s count change h l)
-  sent_backed b e s count change holder.Nobody l i = i
-  sent_backed b e s count change (holder.Engine x) l i =
+  sent_backed b e s count change None l i = i
+  sent_backed b e s count change (Some x) l i =
       cond_both (eqb (home_of b.home.yard x).0 b.home.number.0) _ _ Backed (λ _. happened_backed b (steps.waits e s count) l i) (λ _. i)
 
   wait_backed : (b : State) (from : BoxNumber) (e : Engine) (s : Section) (count change : ℕ) (l : Log) → Backed (b, l) → Backed (wait_at_box b from e s count change l)
@@ -378,11 +377,11 @@ module _ (start : State) where
   -- whatever message comes, the records so far and those that it makes stand for what is stored then
   pub replay_received : (b : State) (from : BoxNumber) (m : Message) (l : Log) → Whole b.keeper → Backed (b, l) → Backed (received_of b from m l)
   replay_received b from (message.Call c) l whole i = called_backed b from c l whole i
-  replay_received b from (message.Answer e k r h c) l whole i = happened_backed b (steps.answer from e k r h c) l i
-  replay_received b from (message.Change s h c) l whole i = changed_backed b from s h c l i
+  replay_received b from (message.Answer e k told) l whole i = happened_backed b (steps.answer from e k told.reply told.holder told.change) l i
+  replay_received b from (message.Change news) l whole i = changed_backed b from news.section news.holder news.change l i
   replay_received b from (message.WhichChange e s) l whole i = cond_both (for_us b from e s) _ _ Backed (λ _. i) (λ _. refused_backed b l i)
-  replay_received b from (message.Sign t k by s) l whole i = happened_backed b (steps.sign from t k by s) l i
-  replay_received b from (message.Waits e s k c) l whole i = wait_backed b from e s k c l i
+  replay_received b from (message.Sign telling) l whole i = happened_backed b (steps.sign from telling.to telling.count telling.by telling.sign) l i
+  replay_received b from (message.Waits waiting) l whole i = wait_backed b from waiting.engine waiting.section waiting.count waiting.change l i
 
   open_records : (o : Option Call) (l : Log) → (open_again o l).records ≡ l.records
   open_records None l = refl

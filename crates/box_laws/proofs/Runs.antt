@@ -1,4 +1,5 @@
 -- By induction on what came: each input's records are read back behind those before, and a stop reads all of them back.
+use Rattle.std.specs.Prelude.{None, Some}
 use Rattle.std.proofs.Common.{◌≡◌, ℕ, eqb, List, [], ◌∷◌, Some, None, Ok, Option, Result, sym, refl, subst}
 use Rattle.std.proofs.lemmas.Bool.{cond_both}
 use Rattle.std.specs.Option.{ok_or}
@@ -7,8 +8,7 @@ use Rattle.messages.specs.declared.yard.Engine.{Engine}
 use Rattle.messages.specs.declared.yard.Section.{Section}
 use Rattle.messages.specs.declared.yard.Yard.{Yard}
 use Rattle.messages.specs.declared.message.Call.{Call}
-use Rattle.messages.specs.declared.message.Holder.{Holder}
-use Rattle.messages.specs.declared.message.Holder.TheVariants as holder
+use Rattle.messages.specs.Holder.{Holder}
 use Rattle.messages.specs.declared.message.Message.{Message}
 use Rattle.messages.specs.declared.message.Message.TheVariants as message
 use Rattle.messages.specs.declared.message.Refusal.TheVariants as refusal
@@ -22,7 +22,7 @@ use Rattle.home.specs.Queries.{engine}
 use Rattle.boxes.specs.declared.signal_box.Input.{Input}
 use Rattle.boxes.specs.declared.signal_box.Input.TheVariants as input
 use Rattle.boxes.specs.Log.{Log, none}
-use Rattle.boxes.specs.Emit.{home_of}
+use Rattle.messages.specs.Homes.{home_of}
 use Rattle.boxes.specs.Model.{State, fresh}
 use Rattle.boxes.specs.Keeping.{for_us}
 use Rattle.boxes.specs.Handle.{change_for, decoded_of, delivered_of, handle_of, received_of, wait_sent}
@@ -40,24 +40,24 @@ module _ (P : keeper.State → Type 0) where
   Kept p = P p.0.keeper
 
   sent_kept : (b : State) (e : Engine) (s : Section) (count change : ℕ) (h : Holder) (l : Log) → P b.keeper → Kept (wait_sent b e s count change h l)
-  sent_kept b e s count change holder.Nobody l i = i
-  sent_kept b e s count change (holder.Engine x) l i = cond_both (eqb (home_of b.home.yard x).0 b.home.number.0) _ _ Kept (λ _. i) (λ _. i)
+  sent_kept b e s count change None l i = i
+  sent_kept b e s count change (Some x) l i = cond_both (eqb (home_of b.home.yard x).0 b.home.number.0) _ _ Kept (λ _. i) (λ _. i)
 
   -- what holds of a keeper and of what any one call makes of it, holds of it after every message
   pub received_keeps : (b : State) (from : BoxNumber) (m : Message) (l : Log) → P b.keeper → ((c : Call) → P (call_of b.keeper c).0) → Kept (received_of b from m l)
   received_keeps b from (message.Call c) l i kept = cond_both (for_us b from c.engine c.section) _ _ Kept (λ _. kept c) (λ _. i)
-  received_keeps b from (message.Answer e k r h c) l i kept = i
-  received_keeps b from (message.Change s h c) l i kept =
-      cond_both (eqb from.0 s.keeper.0) _ _ Kept
-      (λ _. each_keeps Kept (λ k. change_for s h c (engine k)) b.home.yard.engines (λ k p lt pi. cond_both (is_ours p.0.home (engine k)) _ _ Kept (λ _. pi) (λ _. pi)) (b, l) i)
+  received_keeps b from (message.Answer e k answer) l i kept = i
+  received_keeps b from (message.Change news) l i kept =
+      cond_both (eqb from.0 news.section.keeper.0) _ _ Kept
+      (λ _. each_keeps Kept (λ k. change_for news.section news.holder news.change (engine k)) b.home.yard.engines (λ k p lt pi. cond_both (is_ours p.0.home (engine k)) _ _ Kept (λ _. pi) (λ _. pi)) (b, l) i)
       (λ _. i)
   received_keeps b from (message.WhichChange e s) l i kept = cond_both (for_us b from e s) _ _ Kept (λ _. i) (λ _. i)
-  received_keeps b from (message.Sign t k by s) l i kept = i
-  received_keeps b from (message.Waits e s k c) l i kept =
-      cond_both (eqb s.keeper.0 b.home.number.0) _ _ Kept
-      (λ _. cond_both (is_home b.home.yard from e) _ _ Kept
-      (λ _. cond_both (eqb c (change_number_at b.keeper.table s.place)) _ _ Kept (λ _. sent_kept b e s k c (holder_of (holder_at b.keeper.table s.place)) l i) (λ _. i)) (λ _. i))
-      (λ _. cond_both (eqb from.0 s.keeper.0) _ _ Kept (λ _. i) (λ _. i))
+  received_keeps b from (message.Sign telling) l i kept = i
+  received_keeps b from (message.Waits waiting) l i kept =
+      cond_both (eqb waiting.section.keeper.0 b.home.number.0) _ _ Kept
+      (λ _. cond_both (is_home b.home.yard from waiting.engine) _ _ Kept
+      (λ _. cond_both (eqb waiting.change (change_number_at b.keeper.table waiting.section.place)) _ _ Kept (λ _. sent_kept b waiting.engine waiting.section waiting.count waiting.change (holder_of (holder_at b.keeper.table waiting.section.place)) l i) (λ _. i)) (λ _. i))
+      (λ _. cond_both (eqb from.0 waiting.section.keeper.0) _ _ Kept (λ _. i) (λ _. i))
 
   pub handled_keeps : (b : State) (j : Input) (l : Log) → P b.keeper → ((c : Call) → P (call_of b.keeper c).0) → Kept (handle_of b j l)
   handled_keeps b (input.Take e s) l i kept = i

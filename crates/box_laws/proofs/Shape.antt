@@ -1,4 +1,5 @@
 -- A box in shape stays in shape, half by half; and whatever it records and sends is in range.
+use Rattle.std.specs.Prelude.{None, Some}
 use Rattle.std.proofs.Common.{◌≡◌, ℕ, ◌^◌, ◌<◌, eqb, List, length, get_or, Some, None, Option, sym, refl, ap, ◌∙◌, arith}
 use Rattle.std.proofs.lemmas.Bool.{cond_both}
 use Rattle.std.specs.Option.{ok_or}
@@ -7,8 +8,7 @@ use Rattle.messages.specs.declared.yard.Engine.{Engine}
 use Rattle.messages.specs.declared.yard.Section.{Section}
 use Rattle.messages.specs.declared.yard.Yard.{Yard}
 use Rattle.messages.specs.declared.message.Call.{Call}
-use Rattle.messages.specs.declared.message.Holder.{Holder}
-use Rattle.messages.specs.declared.message.Holder.TheVariants as holder
+use Rattle.messages.specs.Holder.{Holder}
 use Rattle.messages.specs.declared.message.Message.{Message}
 use Rattle.messages.specs.declared.message.Message.TheVariants as message
 use Rattle.messages.specs.declared.message.Record.TheVariants as journal
@@ -17,8 +17,7 @@ use Rattle.messages.specs.Promises.{Bytes}
 use Rattle.messages.specs.Range.{CallIn, EngineIn, HolderIn, MessageIn, SectionIn}
 use Rattle.messages.specs.Reading.{message_of}
 use Rattle.messages.proofs.Forms.{one_form}
-use Rattle.sections.specs.declared.Holder as sections
-use Rattle.sections.specs.declared.Holder.TheVariants as has
+use Rattle.sections.specs.Table as sections
 use Rattle.sections.specs.Table.{change_number_at, holder_at}
 use Rattle.signs.specs.Table as table
 use Rattle.engine_state.specs.State.{unread}
@@ -28,7 +27,7 @@ use Rattle.keeper.specs.Calls.{call_of}
 use Rattle.keeper.specs.Homes.{told_of}
 use Rattle.keeper.specs.Range.{AnswerIn, VerdictIn}
 use Rattle.keeper.specs.Words.{holder_of}
-use Rattle.keeper.specs.declared.Answer.{Answer}
+use Rattle.messages.specs.declared.message.Answer.{Answer}
 use Rattle.keeper.specs.declared.Verdict.{Verdict}
 use Rattle.keeper.specs.declared.Verdict.TheVariants as verdict
 use Rattle.home.specs.declared.home.Home.{Home}
@@ -40,7 +39,7 @@ use Rattle.journal.specs.declared.output.Output.TheVariants as output
 use Rattle.boxes.specs.declared.signal_box.Input.{Input}
 use Rattle.boxes.specs.declared.signal_box.Input.TheVariants as input
 use Rattle.boxes.specs.Log.{Log, recorded, said}
-use Rattle.boxes.specs.Emit.{home_of}
+use Rattle.messages.specs.Homes.{home_of}
 use Rattle.boxes.specs.Model.{State, fresh, with_home, with_keeper}
 use Rattle.boxes.specs.Keeping.{answered, called_at, change_to, changes_of, for_us, refused, ruled_log, which_at}
 use Rattle.boxes.specs.Handle.{change_for, changed_at, decoded_of, delivered_of, handle_of, happened, received_of, wait_at_box, wait_sent}
@@ -127,7 +126,7 @@ module _ (y : Yard) (n : ℕ) where
 
   answered_in : (b : State) (c : Call) (a : Answer) (l : Log) → InShape y n b → CallIn y c → AnswerIn y a → a.change < 2 ^ 32 → LogIn y l → LogIn y (answered b c a l)
   answered_in b c a l i ci ai small fine =
-      sent_in y l (home_of b.home.yard c.engine) (message.Answer c.engine c.number a.reply a.holder a.change) fine (home_in y n b.home c.engine i.engines)
+      sent_in y l (home_of b.home.yard c.engine) (message.Answer c.engine c.number a) fine (home_in y n b.home c.engine i.engines)
       (ci.0, ci.2, ai.0, ai.1, small)
 
   changes_in : (b : State) (s : Section) (h : Holder) (change : ℕ) (l : Log) → InShape y n b → SectionIn y s → HolderIn y h → change < 2 ^ 32 → LogIn y l → LogIn y (changes_of b s h change l)
@@ -135,7 +134,7 @@ module _ (y : Yard) (n : ℕ) where
       each_keeps (LogIn y) (λ k. change_to b s h change k) b.home.yard.boxes
       (λ k z lt zi.
       cond_both (told_of b.home.yard k b.keeper.table s.place) _ _ (LogIn y)
-      (λ _. sent_in y z (record { 0 = k }) (message.Change s h change) zi (let same = ap (λ (u : Yard). u.boxes) i.yard in omega arith) (si, hi, ci))
+      (λ _. sent_in y z (record { 0 = k }) (message.Change (record { section = s; holder = h; change = change })) zi (let same = ap (λ (u : Yard). u.boxes) i.yard in omega arith) (si, hi, ci))
       (λ _. zi))
       l fine
 
@@ -160,16 +159,16 @@ module _ (y : Yard) (n : ℕ) where
       (j, ruled_log_in (with_keeper b (call_of b.keeper c).0) c (call_of b.keeper c).1 l j ci k.1 k.2 fine))
       (λ _. refused_shape b l i fine)
 
-  holder_in : (h : sections.Holder) → ((e : ℕ) → h ≡ has.Engine e → e < y.engines) → HolderIn y (holder_of h)
-  holder_in has.Free all = tt
-  holder_in (has.Engine e) all = all e refl
+  holder_in : (h : sections.Holder) → ((e : ℕ) → h ≡ Some e → e < y.engines) → HolderIn y (holder_of h)
+  holder_in None all = tt
+  holder_in (Some e) all = all e refl
 
   pub which_shape : (b : State) (from : BoxNumber) (e : Engine) (s : Section) (l : Log) → InShape y n b → from.0 < y.boxes → SectionIn y s → LogIn y l → Shaped y n (which_at b from e s l)
   which_shape b from e s l i lt si fine =
       cond_both (for_us b from e s) _ _ (Shaped y n)
       (λ _. (
         i,
-        sent_in y l from (message.Change s (holder_of (holder_at b.keeper.table s.place)) (change_number_at b.keeper.table s.place)) fine lt
+        sent_in y l from (message.Change (record { section = s; holder = holder_of (holder_at b.keeper.table s.place); change = change_number_at b.keeper.table s.place })) fine lt
             (si, holder_in (holder_at b.keeper.table s.place) (i.sections.within.0 s.place).0, i.sections.changes s.place),
       ))
       (λ _. refused_shape b l i fine)
@@ -195,11 +194,11 @@ module _ (y : Yard) (n : ℕ) where
   sent_shape :
       (b : State) (e : Engine) (s : Section) (count change : ℕ) (h : Holder) (l : Log) → InShape y n b → EngineIn y e → SectionIn y s → count < 2 ^ 32 → change < 2 ^ 32 → LogIn y l →
       Shaped y n (wait_sent b e s count change h l)
-  sent_shape b e s count change holder.Nobody l i ei si ni ci fine = (i, fine)
-  sent_shape b e s count change (holder.Engine x) l i ei si ni ci fine =
+  sent_shape b e s count change None l i ei si ni ci fine = (i, fine)
+  sent_shape b e s count change (Some x) l i ei si ni ci fine =
       cond_both (eqb (home_of b.home.yard x).0 b.home.number.0) _ _ (Shaped y n)
       (λ _. waits_happen b e s count l i ei si ni fine)
-      (λ _. (i, sent_in y l (home_of b.home.yard x) (message.Waits e s count change) fine (home_in y n b.home x i.engines) (ei, si, ni, ci)))
+      (λ _. (i, sent_in y l (home_of b.home.yard x) (message.Waits (record { engine = e; section = s; count = count; change = change })) fine (home_in y n b.home x i.engines) (ei, si, ni, ci)))
 
   pub wait_shape :
       (b : State) (from : BoxNumber) (e : Engine) (s : Section) (count change : ℕ) (l : Log) → InShape y n b → EngineIn y e → SectionIn y s → count < 2 ^ 32 → change < 2 ^ 32 → LogIn y l →
@@ -216,11 +215,11 @@ module _ (y : Yard) (n : ℕ) where
   -- a message in range, from a box of the yard, keeps the shape; what is recorded and sent is in range
   pub shape_received : (b : State) (from : BoxNumber) (m : Message) (l : Log) → InShape y n b → from.0 < y.boxes → MessageIn y m → LogIn y l → Shaped y n (received_of b from m l)
   shape_received b from (message.Call c) l i lt mi fine = called_shape b from c l i mi fine
-  shape_received b from (message.Answer e k r h c) l i lt mi fine = happened_shape b (answer_of b.home from e k r h c) l i (answer_steps y n b.home from e k r h c i.engines mi.4 mi.3) fine
-  shape_received b from (message.Change s h c) l i lt mi fine = changed_shape b from s h c l i mi.0 mi.1 mi.2 fine
+  shape_received b from (message.Answer e k answer) l i lt mi fine = happened_shape b (answer_of b.home from e k answer.reply answer.holder answer.change) l i (answer_steps y n b.home from e k answer.reply answer.holder answer.change i.engines mi.4 mi.3) fine
+  shape_received b from (message.Change news) l i lt mi fine = changed_shape b from news.section news.holder news.change l i mi.0 mi.1 mi.2 fine
   shape_received b from (message.WhichChange e s) l i lt mi fine = which_shape b from e s l i lt mi.1 fine
-  shape_received b from (message.Sign t k by s) l i lt mi fine = happened_shape b (sign_of b.home from t k by s) l i (sign_steps y n b.home from t k by s i.engines mi.3) fine
-  shape_received b from (message.Waits e s k c) l i lt mi fine = wait_shape b from e s k c l i mi.0 mi.1 mi.2 mi.3 fine
+  shape_received b from (message.Sign telling) l i lt mi fine = happened_shape b (sign_of b.home from telling.to telling.count telling.by telling.sign) l i (sign_steps y n b.home from telling.to telling.count telling.by telling.sign i.engines mi.3) fine
+  shape_received b from (message.Waits waiting) l i lt mi fine = wait_shape b from waiting.engine waiting.section waiting.count waiting.change l i mi.0 mi.1 mi.2 mi.3 fine
 
   -- so does a line of the driver or a second, whatever it names
   pub shape_handled : (b : State) (j : Input) (l : Log) → InShape y n b → IsLine j → LogIn y l → Shaped y n (handle_of b j l)

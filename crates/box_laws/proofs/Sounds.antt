@@ -1,4 +1,5 @@
 -- What a home records could have been written: a call's number is the next, an own sign leaves its engine's number.
+use Rattle.std.specs.Prelude.{None, Some}
 use Rattle.std.proofs.Common.{◌≡◌, ℕ, ◌+◌, ◌%◌, ◌^◌, Bool, true, false, cond, not, ◌||◌, eqb, ltb, leb, get_or, is_some, Some, None, Ok, Err, Option, Result, sym, refl, ◌∙◌, subst, arith}
 use Rattle.std.proofs.lemmas.Bool.{and_from, cond_both, cond-true, eq-eqb, leb-false, or_parts}
 use Rattle.messages.specs.declared.yard.BoxNumber.{BoxNumber}
@@ -7,8 +8,7 @@ use Rattle.messages.specs.declared.yard.Section.{Section}
 use Rattle.messages.specs.declared.message.Act.{Act}
 use Rattle.messages.specs.declared.message.Act.TheVariants as act
 use Rattle.messages.specs.declared.message.Call.{Call}
-use Rattle.messages.specs.declared.message.Holder.{Holder}
-use Rattle.messages.specs.declared.message.Holder.TheVariants as holder
+use Rattle.messages.specs.Holder.{Holder}
 use Rattle.messages.specs.declared.message.Record.{Record}
 use Rattle.messages.specs.declared.message.Refusal.{Refusal}
 use Rattle.messages.specs.declared.message.Refusal.TheVariants as refusal
@@ -51,9 +51,9 @@ Sound engines x (event.Had e s) = Unit {0}
 Sound engines x event.Closed = Unit {0}
 Sound engines x (event.Called c) = Next x c
 Sound engines x (event.Found c) = Next x c
-Sound engines x (event.Began e s c w n own) = (own % engines ≡ e.0) × (n ≡ x.signs.count + 1)
+Sound engines x (event.Began start) = (start.own % engines ≡ start.engine.0) × (start.count ≡ x.signs.count + 1)
 Sound engines x (event.Heard e s) = Unit {0}
-Sound engines x (event.Noted to n by s) = Unit {0}
+Sound engines x (event.Noted telling) = Unit {0}
 
 module _ (engines : ℕ) where
   abbrev Gives : State → State × Event → Type 0
@@ -88,8 +88,8 @@ module _ (engines : ℕ) where
   refused_sound x z refusal.Exhausted = tt
 
   waits_sound : (x : State) (c : Call) (change : ℕ) (h : Holder) → Gives x (waits_for x c engines change h)
-  waits_sound x c change holder.Nobody = tt
-  waits_sound x c change (holder.Engine f) = cond_both (eqb f.0 c.engine.0) _ _ (Gives x) (λ _. tt) (λ _. begin_sound x c.engine c.section change f)
+  waits_sound x c change None = tt
+  waits_sound x c change (Some f) = cond_both (eqb f.0 c.engine.0) _ _ (Gives x) (λ _. tt) (λ _. begin_sound x c.engine c.section change f)
 
   to_sound : (x : State) (c : Call) (r : Reply) (h : Holder) (change : ℕ) (a : Act) → Gives x (answer_to x c engines r h change a)
   to_sound x c reply.Done h change act.Take = tt
@@ -111,8 +111,8 @@ module _ (engines : ℕ) where
   answer_sound x from e n r h change = answered_sound x r h change (awaited x from e n)
 
   passed_sound : (x : State) (e : Engine) (s : Section) (change : ℕ) (h : Holder) → Gives x (passed_to x e engines s change h)
-  passed_sound x e s change holder.Nobody = tt
-  passed_sound x e s change (holder.Engine w) = cond_both (eqb w.0 e.0) _ _ (Gives x) (λ _. tt) (λ _. begin_sound x e s change w)
+  passed_sound x e s change None = tt
+  passed_sound x e s change (Some w) = cond_both (eqb w.0 e.0) _ _ (Gives x) (λ _. tt) (λ _. begin_sound x e s change w)
 
   pub change_sound : (x : State) (e : Engine) (s : Section) (h : Holder) (change : ℕ) → Gives x (change_at x e engines s h change)
   unfolding change_at
@@ -192,10 +192,10 @@ event_sound h e (event.Had f p) z ours b s = tt
 event_sound h e event.Closed z ours b s = tt
 event_sound h e (event.Called c) z ours b s = made_sound h e c ours b.0 s
 event_sound h e (event.Found c) z ours b s = made_sound h e c ours b.0 s
-event_sound h e (event.Began f p c w n own) z ours b s =
-    and_from (is_ours h f) (leaves h f own) (subst (λ (g : Engine). is_ours h g ≡ true) (sym b.0) ours) (eq-eqb (own % h.yard.engines) f.0 s.0)
+event_sound h e (event.Began start) z ours b s =
+    and_from (is_ours h start.engine) (leaves h start.engine start.own) (subst (λ (g : Engine). is_ours h g ≡ true) (sym b.0) ours) (eq-eqb (start.own % h.yard.engines) start.engine.0 s.0)
 event_sound h e (event.Heard f sign) z ours b s = subst (λ (g : Engine). is_ours h g ≡ true) (sym b.0) ours
-event_sound h e (event.Noted to n by sign) z ours b s = tt
+event_sound h e (event.Noted telling) z ours b s = tt
 
 abbrev Records : Home → Home × Event → Type 0
 Records h p = RecordSound h (record_of p.1)

@@ -26,11 +26,11 @@ IsReply (reply.Refused r) = Unit {0}
 
 abbrev pub IsReport : Message → Type 0
 IsReport (message.Call c) = ⊥
-IsReport (message.Answer e n r h c) = IsReply r
-IsReport (message.Change s h c) = Unit {0}
+IsReport (message.Answer e n answer) = IsReply answer.reply
+IsReport (message.Change news) = Unit {0}
 IsReport (message.WhichChange e s) = ⊥
-IsReport (message.Sign t n b s) = ⊥
-IsReport (message.Waits e s n c) = ⊥
+IsReport (message.Sign telling) = ⊥
+IsReport (message.Waits waiting) = ⊥
 
 -- a refusal is said first
 abbrev pub RefusedFirst : Log → Type 0

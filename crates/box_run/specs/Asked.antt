@@ -1,21 +1,8 @@
 -- What the arguments of the program ask for. Assumes nothing.
-use Rattle.std.specs.Prelude.{ℕ, ◌+◌, ◌-◌, ◌*◌, ◌&&◌, List, [], ◌∷◌, Some, None, Option, nat_le}
+use Rattle.std.specs.Prelude.{ℕ, ◌+◌, ◌&&◌, List, Some, Option, nat_le}
 use Rattle.messages.specs.Reading.{and_then, unless}
+use Rattle.words.specs.Words.{short_number}
 use Rattle.box_run.specs.declared.which.Which.{Which}
-
--- the value of a decimal digit
-abbrev pub digit_in : ℕ → Option ℕ
-digit_in c = unless (nat_le 48 c && nat_le c 57) (Some (c - 48))
-
-abbrev pub two_of : ℕ → ℕ → Option ℕ
-two_of a b = and_then (digit_in a) (λ x. and_then (digit_in b) (λ y. Some (x * 10 + y)))
-
--- a number of one or two digits
-abbrev pub number_in : List ℕ → Option ℕ
-number_in [] = None
-number_in (a ∷ []) = digit_in a
-number_in (a ∷ b ∷ []) = two_of a b
-number_in (a ∷ b ∷ c ∷ ds) = None
 
 -- which box, of how many boxes and engines
 pub record Sizes : Type 0 where
@@ -29,11 +16,11 @@ in_yard n e b = unless ((nat_le 1 b && nat_le b 16) && ((nat_le 1 e && nat_le e 
 
 -- `NUMBER ENGINES`, of sixteen boxes
 abbrev pub of_sixteen : List ℕ → List ℕ → Option Sizes
-of_sixteen n e = and_then (number_in n) (λ x. and_then (number_in e) (λ y. in_yard x y 16))
+of_sixteen n e = and_then (short_number n) (λ x. and_then (short_number e) (λ y. in_yard x y 16))
 
 -- `NUMBER ENGINES BOXES`
 abbrev pub of_boxes : List ℕ → List ℕ → List ℕ → Option Sizes
-of_boxes n e b = and_then (number_in n) (λ x. and_then (number_in e) (λ y. and_then (number_in b) (λ z. in_yard x y z)))
+of_boxes n e b = and_then (short_number n) (λ x. and_then (short_number e) (λ y. and_then (short_number b) (λ z. in_yard x y z)))
 
 abbrev pub sizes_of : Which → Sizes
 sizes_of w = record { number = w.number.0; engines = w.yard.engines; boxes = w.yard.boxes }

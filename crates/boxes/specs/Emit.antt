@@ -1,29 +1,28 @@
 -- What is recorded, sent and printed of each event at a home. Assumes nothing.
-use Rattle.std.specs.Prelude.{ℕ, ◌%◌, cond}
-use Rattle.messages.specs.declared.yard.BoxNumber.{BoxNumber}
+use Rattle.std.specs.Prelude.{ℕ, cond, None, Some}
 use Rattle.messages.specs.declared.yard.Engine.{Engine}
 use Rattle.messages.specs.declared.yard.Section.{Section}
-use Rattle.messages.specs.declared.yard.Yard.{Yard}
+use Rattle.messages.specs.Homes.{home_of}
 use Rattle.messages.specs.declared.message.Call.{Call}
+use Rattle.messages.specs.declared.message.Sign.{Sign}
 use Rattle.messages.specs.declared.message.Message.TheVariants as message
 use Rattle.messages.specs.declared.message.Record.TheVariants as journal
 use Rattle.engine_state.specs.declared.state.Event.{Event}
 use Rattle.engine_state.specs.declared.state.Event.TheVariants as event
 use Rattle.home.specs.declared.home.Home.{Home}
-use Rattle.home.specs.declared.home.Note.{Note}
-use Rattle.home.specs.declared.home.Note.TheVariants as note
+use Rattle.home.specs.Noted.{Noted}
 use Rattle.home.specs.Queries.{engine, holds_at, note_at}
 use Rattle.journal.specs.declared.output.Output.TheVariants as output
 use Rattle.boxes.specs.Log.{Log, recorded, said, sent, each}
 
--- the home of an engine: the box that its number leaves when divided by the number of boxes
-abbrev pub home_of : Yard → Engine → BoxNumber
-home_of y e = record { 0 = e.0 % y.boxes }
+-- a sign, to the home of the engine that it is told to
+abbrev pub sign_sent : Home → Sign → Log → Log
+sign_sent h s l = sent l (home_of h.yard s.to) (message.Sign s)
 
 -- the sign that one of ours shows, to an engine that is noted as waiting for what it holds
-abbrev pub tell_noted : Home → Engine → ℕ → Engine → Note → Log → Log
-tell_noted h by sign x note.Nothing l = l
-tell_noted h by sign x (note.Waits s count) l = cond (holds_at h by s) (sent l (home_of h.yard x) (message.Sign x count by sign)) l
+abbrev pub tell_noted : Home → Engine → ℕ → Engine → Noted → Log → Log
+tell_noted h by sign x None l = l
+tell_noted h by sign x (Some seen) l = cond (holds_at h by seen.section) (sign_sent h (record { to = x; count = seen.count; by = by; sign = sign }) l) l
 
 abbrev pub tell_of : Home → Engine → ℕ → Engine → Log → Log
 tell_of h by sign x l = tell_noted h by sign x (note_at h x) l
@@ -40,7 +39,7 @@ found_of c l = sent (said (recorded l (journal.Made c)) (output.GiveBack c.engin
 
 abbrev pub began_of : Home → Engine → Section → ℕ → Engine → ℕ → ℕ → Log → Log
 began_of h e s change whom count own l =
-    tells_of h e own (sent (recorded l (journal.Beginning e s change whom count own)) s.keeper (message.Waits e s count change))
+    tells_of h e own (sent (recorded l (journal.Beginning (record { engine = e; section = s; change = change; holder = whom; count = count; own = own }))) s.keeper (message.Waits (record { engine = e; section = s; count = count; change = change })))
 
 -- what an event gives, in its order
 abbrev pub emit_of : Home → Event → Log → Log
@@ -51,6 +50,6 @@ emit_of h (event.Had e s) l = said l (output.Had e s)
 emit_of h event.Closed l = l
 emit_of h (event.Called c) l = called_of c l
 emit_of h (event.Found c) l = found_of c l
-emit_of h (event.Began e s change whom count own) l = began_of h e s change whom count own l
+emit_of h (event.Began start) l = began_of h start.engine start.section start.change start.holder start.count start.own l
 emit_of h (event.Heard e sign) l = tells_of h e sign (recorded l (journal.Heard e sign))
-emit_of h (event.Noted to count by sign) l = sent l (home_of h.yard to) (message.Sign to count by sign)
+emit_of h (event.Noted s) l = sign_sent h s l

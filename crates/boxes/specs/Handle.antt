@@ -5,8 +5,7 @@ use Rattle.messages.specs.declared.yard.BoxNumber.{BoxNumber}
 use Rattle.messages.specs.declared.yard.Engine.{Engine}
 use Rattle.messages.specs.declared.yard.Section.{Section}
 use Rattle.messages.specs.declared.message.Call.{Call}
-use Rattle.messages.specs.declared.message.Holder.{Holder}
-use Rattle.messages.specs.declared.message.Holder.TheVariants as holder
+use Rattle.messages.specs.Holder.{Holder}
 use Rattle.messages.specs.declared.message.Message.{Message}
 use Rattle.messages.specs.declared.message.Message.TheVariants as message
 use Rattle.messages.specs.declared.message.Refusal.{Refusal}
@@ -25,7 +24,8 @@ use Rattle.journal.specs.declared.output.Output.TheVariants as output
 use Rattle.boxes.specs.declared.signal_box.Input.{Input}
 use Rattle.boxes.specs.declared.signal_box.Input.TheVariants as input
 use Rattle.boxes.specs.Log.{Log, said, sent, each}
-use Rattle.boxes.specs.Emit.{home_of, emit_of, tells_of}
+use Rattle.messages.specs.Homes.{home_of}
+use Rattle.boxes.specs.Emit.{emit_of, tells_of}
 use Rattle.boxes.specs.Model.{State, with_home}
 use Rattle.boxes.specs.Keeping.{refused, called_at, which_at}
 
@@ -44,11 +44,11 @@ changed_at b from s h change l =
 
 -- that an engine waits for a section here, sent on to the home of the one that has it
 abbrev pub wait_sent : State → Engine → Section → ℕ → ℕ → Holder → Log → State × Log
-wait_sent b e s count change holder.Nobody l = (b, l)
-wait_sent b e s count change (holder.Engine y) l =
+wait_sent b e s count change None l = (b, l)
+wait_sent b e s count change (Some y) l =
     cond ((home_of b.home.yard y).0 == b.home.number.0)
     (happened b (waits_of b.home e s count) l)
-    (b, sent l (home_of b.home.yard y) (message.Waits e s count change))
+    (b, sent l (home_of b.home.yard y) (message.Waits (record { engine = e; section = s; count = count; change = change })))
 
 -- that an engine waits for a section here, of the section's last change
 abbrev pub wait_here : State → Engine → Section → ℕ → ℕ → Log → State × Log
@@ -71,11 +71,11 @@ wait_at_box b from e s count change l =
 -- one message, from its sender
 abbrev pub received_of : State → BoxNumber → Message → Log → State × Log
 received_of b from (message.Call c) l = called_at b from c l
-received_of b from (message.Answer e n r h c) l = happened b (answer_of b.home from e n r h c) l
-received_of b from (message.Change s h c) l = changed_at b from s h c l
+received_of b from (message.Answer e n answer) l = happened b (answer_of b.home from e n answer.reply answer.holder answer.change) l
+received_of b from (message.Change news) l = changed_at b from news.section news.holder news.change l
 received_of b from (message.WhichChange e s) l = which_at b from e s l
-received_of b from (message.Sign t n by s) l = happened b (sign_of b.home from t n by s) l
-received_of b from (message.Waits e s n c) l = wait_at_box b from e s n c l
+received_of b from (message.Sign telling) l = happened b (sign_of b.home from telling.to telling.count telling.by telling.sign) l
+received_of b from (message.Waits waiting) l = wait_at_box b from waiting.engine waiting.section waiting.count waiting.change l
 
 -- what was decoded; what is no message is turned away
 abbrev pub decoded_of : State → BoxNumber → Result Message Refusal → Log → State × Log
@@ -94,7 +94,7 @@ open_again (Some c) l = sent l c.section.keeper (message.Call c)
 abbrev pub wait_again : Engine → Option Wait → Log → Log
 wait_again e None l = l
 wait_again e (Some w) l =
-    sent (sent l w.section.keeper (message.Waits e w.section w.count w.change)) w.section.keeper (message.WhichChange e w.section)
+    sent (sent l w.section.keeper (message.Waits (record { engine = e; section = w.section; count = w.count; change = w.change }))) w.section.keeper (message.WhichChange e w.section)
 
 abbrev pub tell_again : Home → Engine → Option signs.Engine → Log → Log
 tell_again h e None l = l

@@ -4,12 +4,12 @@ use Rattle.messages.specs.declared.yard.BoxNumber.{BoxNumber}
 use Rattle.messages.specs.declared.yard.Engine.{Engine}
 use Rattle.messages.specs.declared.yard.Section.{Section}
 use Rattle.messages.specs.declared.message.Call.{Call}
-use Rattle.messages.specs.declared.message.Holder.{Holder}
+use Rattle.messages.specs.Holder.{Holder}
 use Rattle.messages.specs.declared.message.Message.TheVariants as message
 use Rattle.messages.specs.declared.message.Record.TheVariants as journal
 use Rattle.messages.specs.declared.message.Refusal.TheVariants as refusal
 use Rattle.sections.specs.Table.{change_number_at, holder_at}
-use Rattle.keeper.specs.declared.Answer.{Answer}
+use Rattle.messages.specs.declared.message.Answer.{Answer}
 use Rattle.keeper.specs.declared.Verdict.{Verdict}
 use Rattle.keeper.specs.declared.Verdict.TheVariants as verdict
 use Rattle.keeper.specs.Model as keeper
@@ -19,7 +19,7 @@ use Rattle.keeper.specs.Words.{holder_of}
 use Rattle.home.specs.Home.{is_home}
 use Rattle.journal.specs.declared.output.Output.TheVariants as output
 use Rattle.boxes.specs.Log.{Log, recorded, said, sent, each}
-use Rattle.boxes.specs.Emit.{home_of}
+use Rattle.messages.specs.Homes.{home_of}
 use Rattle.boxes.specs.Model.{State, with_keeper}
 
 -- turned away: nothing changes but what is said
@@ -33,7 +33,7 @@ for_us b from e s = s.keeper.0 == b.home.number.0 && is_home b.home.yard from e
 -- the change of a section, to one box if that is a home concerned
 abbrev pub change_to : State → Section → Holder → ℕ → ℕ → Log → Log
 change_to b s h change n l =
-    cond (told_of b.home.yard n b.keeper.table s.place) (sent l (record { 0 = n }) (message.Change s h change)) l
+    cond (told_of b.home.yard n b.keeper.table s.place) (sent l (record { 0 = n }) (message.Change (record { section = s; holder = h; change = change }))) l
 
 -- the change of a section, to all homes concerned by their numbers
 abbrev pub changes_of : State → Section → Holder → ℕ → Log → Log
@@ -41,7 +41,7 @@ changes_of b s h change l = each (λ n. change_to b s h change n) b.home.yard.bo
 
 abbrev pub answered : State → Call → Answer → Log → Log
 answered b c a l =
-    sent l (home_of b.home.yard c.engine) (message.Answer c.engine c.number a.reply a.holder a.change)
+    sent l (home_of b.home.yard c.engine) (message.Answer c.engine c.number a)
 
 -- what a verdict on a call gives, in its order
 abbrev pub ruled_log : State → Call → Verdict → Log → Log
@@ -64,5 +64,5 @@ called_at b from c l = cond (for_us b from c.engine c.section) (ruled b c (call_
 abbrev pub which_at : State → BoxNumber → Engine → Section → Log → State × Log
 which_at b from e s l =
     cond (for_us b from e s)
-    (b, sent l from (message.Change s (holder_of (holder_at b.keeper.table s.place)) (change_number_at b.keeper.table s.place)))
+    (b, sent l from (message.Change (record { section = s; holder = holder_of (holder_at b.keeper.table s.place); change = change_number_at b.keeper.table s.place })))
     (refused b l)

@@ -11,6 +11,7 @@ use Rattle.keeper.specs.declared.Verdict.TheVariants as verdict
 use Rattle.home.specs.declared.home.Home.{Home}
 use Rattle.home.specs.Home.{is_ours, apply_of}
 use Rattle.home.specs.Queries.{is_next}
+use Rattle.boxes.specs.declared.opening.Unwritten.{Unwritten}
 use Rattle.boxes.specs.declared.signal_box.SignalBox.{SignalBox}
 use Rattle.boxes.specs.Model.{State, state_of, with_keeper, with_home}
 
@@ -32,7 +33,7 @@ leaves h e own = own % h.yard.engines == e.0
 abbrev pub is_sound : Home → Record → Bool
 is_sound h (journal.Kept c) = false
 is_sound h (journal.Made c) = is_next h c
-is_sound h (journal.Beginning e s change whom count own) = is_ours h e && leaves h e own
+is_sound h (journal.Beginning start) = is_ours h start.engine && leaves h start.engine start.own
 is_sound h (journal.Heard e sign) = is_ours h e
 
 abbrev pub kept_again : State → keeper.State × Verdict → State × Bool
@@ -48,7 +49,7 @@ home_again b r = cond (is_sound b.home r) (with_home b (apply_of b.home r), true
 abbrev pub replay_of : State → Record → State × Bool
 replay_of b (journal.Kept c) = kept_here b c
 replay_of b (journal.Made c) = home_again b (journal.Made c)
-replay_of b (journal.Beginning e s change whom count own) = home_again b (journal.Beginning e s change whom count own)
+replay_of b (journal.Beginning start) = home_again b (journal.Beginning start)
 replay_of b (journal.Heard e sign) = home_again b (journal.Heard e sign)
 
 -- the box that a list of records stands for, or which of them couldn't have been written; i: how many went before
@@ -56,6 +57,6 @@ unfoldable pub open_from : ℕ → List Record → State → Result State ℕ
 open_from i [] b = Ok b
 open_from i (r ∷ rs) b = cond (replay_of b r).1 (open_from (i + 1) rs (replay_of b r).0) (Err i)
 
-abbrev pub opened : Result SignalBox ℕ → Result State ℕ
+abbrev pub opened : Result SignalBox Unwritten → Result State ℕ
 opened (Ok b) = Ok (state_of b)
-opened (Err i) = Err i
+opened (Err e) = Err e.index

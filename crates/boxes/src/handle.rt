@@ -2,15 +2,15 @@
 ghost use Rattle.std.specs.Prelude.{◌≡◌, OnOk};
 ghost use Rattle.boxes.specs.Log.{log_of};
 ghost use Rattle.boxes.specs.Model.{fresh, state_of};
-ghost use Rattle.boxes.specs.Handle.{change_for, changed_at, decoded_of, delivered_of, handle_of, received_of, wait_at_box, wait_from_home, wait_from_keeper, wait_here, wait_sent};
+ghost use Rattle.boxes.specs.Handle.{change_for, changed_at, delivered_of, handle_of, received_of, wait_at_box, wait_from_home, wait_from_keeper, wait_here, wait_sent};
 
-use crate::emit::{emit, home_of, send};
+use crate::emit::{emit, send};
 use crate::signal_box::{Input, SignalBox};
 use engine_state::Event;
 use home::{Home, is_home};
 use journal::{Effects, Fault, Output};
 use keeper::Keeper;
-use messages::{BoxNumber, Engine, Holder, Message, Refusal, Section, Yard, decode};
+use messages::{BoxNumber, Change, Engine, Message, Refusal, Waits, Yard, decode};
 
 impl SignalBox {
     // A box of which there is no record yet.
@@ -25,41 +25,37 @@ impl SignalBox {
 
     fn change_for(
         &mut self,
-        section: Section,
-        holder: Holder,
-        change: u32,
+        change: Change,
         engine: Engine,
         effects: &mut Effects,
     ) -> Result<(), Fault>
-        ensures { OnOk result ((state_of self.new, log_of effects.new) ≡ change_for section holder change engine (state_of self.old, log_of effects.old)) }
+        ensures { OnOk result ((state_of self.new, log_of effects.new) ≡ change_for change.section change.holder change.change engine (state_of self.old, log_of effects.old)) }
     {
         if !self.home.is_ours(engine) {
             return Ok(());
         }
         // Most of ours pass it over.
-        match self.home.change_at(engine, section, holder, change) {
+        match self.home.change_at(engine, change) {
             Event::PassedOver => Ok(()),
             event => emit(&self.home, event, effects),
         }
     }
 
-    // A section has passed to `holder`, by its change `change`: each of ours by number.
+    // A change of a section, heard by each of ours by number.
     fn change(
         &mut self,
         from: BoxNumber,
-        section: Section,
-        holder: Holder,
-        change: u32,
+        change: Change,
         effects: &mut Effects,
     ) -> Result<(), Fault>
-        ensures { OnOk result ((state_of self.new, log_of effects.new) ≡ changed_at (state_of self.old) from section holder change (log_of effects.old)) }
+        ensures { OnOk result ((state_of self.new, log_of effects.new) ≡ changed_at (state_of self.old) from change.section change.holder change.change (log_of effects.old)) }
     {
-        if from.0 != section.keeper.0 {
+        if from != change.section.keeper {
             return effects.say(Output::Refused(Refusal::Malformed));
         }
         let engines = self.home.yard().engines;
-        for e in 0u8..engines {
-            self.change_for(section, holder, change, Engine(e), effects)?;
+        for engine in (0..engines).map(Engine) {
+            self.change_for(change, engine, effects)?;
         }
         Ok(())
     }
@@ -67,104 +63,73 @@ impl SignalBox {
     // Sends on that an engine waits, to the home of the one that has the section; here it is dealt with at once.
     fn send_wait(
         &mut self,
-        engine: Engine,
-        section: Section,
-        count: u32,
-        change: u32,
-        holder: Holder,
+        waits: Waits,
+        holder: Option<Engine>,
         effects: &mut Effects,
     ) -> Result<(), Fault>
-        ensures { OnOk result ((state_of self.new, log_of effects.new) ≡ wait_sent (state_of self.old) engine section count change holder (log_of effects.old)) }
+        ensures { OnOk result ((state_of self.new, log_of effects.new) ≡ wait_sent (state_of self.old) waits.engine waits.section waits.count waits.change holder (log_of effects.old)) }
     {
-        let Holder::Engine(holder) = holder else {
+        let Some(holder) = holder else {
             return Ok(());
         };
-        let to = home_of(self.home.yard(), holder);
-        if to.0 != self.home.number().0 {
-            return send(
-                to,
-                Message::Waits {
-                    engine,
-                    section,
-                    count,
-                    change,
-                },
-                effects,
-            );
+        let to = self.home.yard().home(holder);
+        if to != self.home.number() {
+            return send(to, Message::Waits(waits), effects);
         }
-        let event = self.home.waits(engine, section, count);
+        let event = self.home.waits(waits);
         emit(&self.home, event, effects)
     }
 
-    fn wait_here(
-        &mut self,
-        engine: Engine,
-        section: Section,
-        count: u32,
-        change: u32,
-        effects: &mut Effects,
-    ) -> Result<(), Fault>
-        ensures { OnOk result ((state_of self.new, log_of effects.new) ≡ wait_here (state_of self.old) engine section count change (log_of effects.old)) }
+    fn wait_here(&mut self, waits: Waits, effects: &mut Effects) -> Result<(), Fault>
+        ensures { OnOk result ((state_of self.new, log_of effects.new) ≡ wait_here (state_of self.old) waits.engine waits.section waits.count waits.change (log_of effects.old)) }
     {
-        if change != self.keeper.change(section.place) {
+        let place = waits.section.place;
+        if waits.change != self.keeper.change(place) {
             return Ok(());
         }
-        let holder = self.keeper.holder(section.place);
-        self.send_wait(engine, section, count, change, holder, effects)
+        let holder = self.keeper.holder(place);
+        self.send_wait(waits, holder, effects)
     }
 
     // The engine's home says that it waits for a section here.
     fn wait_from_home(
         &mut self,
         from: BoxNumber,
-        engine: Engine,
-        section: Section,
-        count: u32,
-        change: u32,
+        waits: Waits,
         effects: &mut Effects,
     ) -> Result<(), Fault>
-        ensures { OnOk result ((state_of self.new, log_of effects.new) ≡ wait_from_home (state_of self.old) from engine section count change (log_of effects.old)) }
+        ensures { OnOk result ((state_of self.new, log_of effects.new) ≡ wait_from_home (state_of self.old) from waits.engine waits.section waits.count waits.change (log_of effects.old)) }
     {
-        if !is_home(self.home.yard(), from, engine) {
+        if !is_home(self.home.yard(), from, waits.engine) {
             return effects.say(Output::Refused(Refusal::Malformed));
         }
-        self.wait_here(engine, section, count, change, effects)
+        self.wait_here(waits, effects)
     }
 
     // The section's box says that an engine waits for it.
     fn wait_from_keeper(
         &mut self,
         from: BoxNumber,
-        engine: Engine,
-        section: Section,
-        count: u32,
+        waits: Waits,
         effects: &mut Effects,
     ) -> Result<(), Fault>
-        ensures { OnOk result ((state_of self.new, log_of effects.new) ≡ wait_from_keeper (state_of self.old) from engine section count (log_of effects.old)) }
+        ensures { OnOk result ((state_of self.new, log_of effects.new) ≡ wait_from_keeper (state_of self.old) from waits.engine waits.section waits.count (log_of effects.old)) }
     {
-        if from.0 != section.keeper.0 {
+        if from != waits.section.keeper {
             return effects.say(Output::Refused(Refusal::Malformed));
         }
-        let event = self.home.waits(engine, section, count);
+        let event = self.home.waits(waits);
         emit(&self.home, event, effects)
     }
 
     // An engine waits: its home says so to the section's box, and that to the home of the one that has it.
-    fn wait(
-        &mut self,
-        from: BoxNumber,
-        engine: Engine,
-        section: Section,
-        count: u32,
-        change: u32,
-        effects: &mut Effects,
-    ) -> Result<(), Fault>
-        ensures { OnOk result ((state_of self.new, log_of effects.new) ≡ wait_at_box (state_of self.old) from engine section count change (log_of effects.old)) }
+    fn wait(&mut self, from: BoxNumber, waits: Waits, effects: &mut Effects) -> Result<(), Fault>
+        ensures { OnOk result ((state_of self.new, log_of effects.new) ≡ wait_at_box (state_of self.old) from waits.engine waits.section waits.count waits.change (log_of effects.old)) }
     {
-        if section.keeper.0 == self.home.number().0 {
-            self.wait_from_home(from, engine, section, count, change, effects)
+        if waits.section.keeper == self.home.number() {
+            self.wait_from_home(from, waits, effects)
         } else {
-            self.wait_from_keeper(from, engine, section, count, effects)
+            self.wait_from_keeper(from, waits, effects)
         }
     }
 
@@ -182,36 +147,20 @@ impl SignalBox {
             Message::Answer {
                 engine,
                 call,
-                reply,
-                holder,
-                change,
+                answer,
             } => {
-                let event = self.home.answer(from, engine, call, reply, holder, change);
+                let event = self.home.answer(from, engine, call, answer);
                 emit(&self.home, event, effects)
             }
-            Message::Change {
-                section,
-                holder,
-                change,
-            } => self.change(from, section, holder, change, effects),
+            Message::Change(change) => self.change(from, change, effects),
             Message::WhichChange { engine, section } => self.which_change(
                 from, engine, section, effects,
             ),
-            Message::Sign {
-                to,
-                count,
-                by,
-                sign,
-            } => {
-                let event = self.home.sign(from, to, count, by, sign);
+            Message::Sign(sign) => {
+                let event = self.home.sign(from, sign);
                 emit(&self.home, event, effects)
             }
-            Message::Waits {
-                engine,
-                section,
-                count,
-                change,
-            } => self.wait(from, engine, section, count, change, effects),
+            Message::Waits(waits) => self.wait(from, waits, effects),
         }
     }
 
@@ -233,21 +182,6 @@ impl SignalBox {
         }
     }
 
-    // What was decoded, or isn't a message.
-    fn receive_decoded(
-        &mut self,
-        from: BoxNumber,
-        decoded: Result<Message, Refusal>,
-        effects: &mut Effects,
-    ) -> Result<(), Fault>
-        ensures { OnOk result ((state_of self.new, log_of effects.new) ≡ decoded_of (state_of self.old) from decoded (log_of effects.old)) }
-    {
-        match decoded {
-            Ok(message) => self.receive(from, message, effects),
-            Err(refusal) => effects.say(Output::Refused(refusal)),
-        }
-    }
-
     // The bytes of a message, from the box `from`; what is no message is refused by 1.
     pub fn deliver(
         &mut self,
@@ -257,7 +191,9 @@ impl SignalBox {
     ) -> Result<(), Fault>
         ensures { OnOk result ((state_of self.new, log_of effects.new) ≡ delivered_of (state_of self.old) from bytes.now (log_of effects.old)) }
     {
-        let decoded = decode(self.home.yard(), bytes);
-        self.receive_decoded(from, decoded, effects)
+        match decode(self.home.yard(), bytes) {
+            Ok(message) => self.receive(from, message, effects),
+            Err(refusal) => effects.say(Output::Refused(refusal)),
+        }
     }
 }

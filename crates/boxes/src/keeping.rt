@@ -4,61 +4,45 @@ ghost use Rattle.boxes.specs.Log.{log_of, sent};
 ghost use Rattle.boxes.specs.Model.{state_of};
 ghost use Rattle.boxes.specs.Keeping.{answered, called_at, changes_of, change_to, for_us, ruled_log, which_at};
 
-use crate::emit::{home_of, send};
+use crate::emit::send;
 use crate::signal_box::SignalBox;
 use home::is_home;
 use journal::{Effects, Fault, Output};
 use keeper::{Answer, Verdict};
-use messages::{BoxNumber, Call, Engine, Holder, Message, Record, Refusal, Section};
+use messages::{BoxNumber, Call, Change, Engine, Message, Record, Refusal, Section};
 
 impl SignalBox {
     // Is the section here, and the sender the engine's home.
     fn is_for_us(&self, from: BoxNumber, engine: Engine, section: Section) -> bool
         ensures { result ≡ for_us (state_of self.now) from engine section }
     {
-        section.keeper.0 == self.home.number().0 && is_home(self.home.yard(), from, engine)
+        section.keeper == self.home.number() && is_home(self.home.yard(), from, engine)
     }
 
     fn send_change(
         &self,
-        section: Section,
-        holder: Holder,
-        change: u32,
-        to: u8,
+        change: Change,
+        to: BoxNumber,
         effects: &mut Effects,
     ) -> Result<(), Fault>
-        ensures { OnOk result (log_of effects.new ≡ change_to (state_of self.now) section holder change to (log_of effects.old)) }
+        ensures { OnOk result (log_of effects.new ≡ change_to (state_of self.now) change.section change.holder change.change to.0 (log_of effects.old)) }
     {
         if self
             .keeper
-            .has_home(section.place, self.home.yard(), BoxNumber(to))
+            .has_home(change.section.place, self.home.yard(), to)
         {
-            send(
-                BoxNumber(to),
-                Message::Change {
-                    section,
-                    holder,
-                    change,
-                },
-                effects,
-            )?;
+            send(to, Message::Change(change), effects)?;
         }
         Ok(())
     }
 
     // Who has the section now, to the homes of that one and of all in the queue.
-    fn send_changes(
-        &self,
-        section: Section,
-        holder: Holder,
-        change: u32,
-        effects: &mut Effects,
-    ) -> Result<(), Fault>
-        ensures { OnOk result (log_of effects.new ≡ changes_of (state_of self.now) section holder change (log_of effects.old)) }
+    fn send_changes(&self, change: Change, effects: &mut Effects) -> Result<(), Fault>
+        ensures { OnOk result (log_of effects.new ≡ changes_of (state_of self.now) change.section change.holder change.change (log_of effects.old)) }
     {
         let boxes = self.home.yard().boxes;
-        for b in 0u8..boxes {
-            self.send_change(section, holder, change, b, effects)?;
+        for to in (0..boxes).map(BoxNumber) {
+            self.send_change(change, to, effects)?;
         }
         Ok(())
     }
@@ -69,11 +53,9 @@ impl SignalBox {
         let message = Message::Answer {
             engine: call.engine,
             call: call.number,
-            reply: answer.reply,
-            holder: answer.holder,
-            change: answer.change,
+            answer,
         };
-        send(home_of(self.home.yard(), call.engine), message, effects)
+        send(self.home.yard().home(call.engine), message, effects)
     }
 
     // What a verdict on a call gives; what used up its number is recorded.
@@ -103,7 +85,14 @@ impl SignalBox {
             Verdict::PassedOn(answer) => {
                 effects.record(Record::Kept(call))?;
                 self.send_answer(call, answer, effects)?;
-                self.send_changes(call.section, answer.holder, answer.change, effects)
+                self.send_changes(
+                    Change {
+                        section: call.section,
+                        holder: answer.holder,
+                        change: answer.change,
+                    },
+                    effects,
+                )
             }
         }
     }
@@ -135,11 +124,11 @@ impl SignalBox {
         if !self.is_for_us(from, engine, section) {
             return effects.say(Output::Refused(Refusal::Malformed));
         }
-        let message = Message::Change {
+        let change = Change {
             section,
             holder: self.keeper.holder(section.place),
             change: self.keeper.change(section.place),
         };
-        send(from, message, effects)
+        send(from, Message::Change(change), effects)
     }
 }

@@ -9,5 +9,5 @@ mod parts;
 mod second;
 mod signal_box;
 
-pub use emit::home_of;
+pub use opening::Unwritten;
 pub use signal_box::{Input, SignalBox};

@@ -1,20 +1,17 @@
 // A box that comes up from the records of its file.
 ghost use Rattle.std.specs.Prelude.{◌≡◌};
+ghost use Rattle.std.specs.Option.{is_some};
 ghost use Rattle.boxes.specs.Model.{fresh, state_of};
-ghost use Rattle.boxes.specs.Opening.{home_again, is_sound, kept_here, opened, open_from, replay_of, used_up};
+ghost use Rattle.boxes.specs.Opening.{home_again, is_sound, kept_here, opened, open_from, replay_of};
 
 use crate::signal_box::SignalBox;
 use home::Home;
-use keeper::Verdict;
-use messages::{BoxNumber, Call, Record, Yard};
+use messages::{Beginning, BoxNumber, Call, Record, Yard};
 
-fn is_used_up(verdict: Verdict) -> bool
-    ensures { result ≡ used_up verdict }
-{
-    match verdict {
-        Verdict::Refused(_, _) | Verdict::Done(_) | Verdict::PassedOn(_) => true,
-        Verdict::Malformed | Verdict::PassedOver | Verdict::Again(_) | Verdict::AtLimit(_) => false,
-    }
+// The index of the first record that couldn't have been written.
+#[derive(Clone, Copy, PartialEq, Eq, Debug)]
+pub struct Unwritten {
+    pub index: usize,
 }
 
 // Could the home have written the record.
@@ -24,60 +21,53 @@ fn is_sound(home: &Home, record: Record) -> bool
     match record {
         Record::Kept(_) => false,
         Record::Made(call) => home.is_next(call),
-        Record::Beginning {
-            engine,
-            section: _,
-            change: _,
-            holder: _,
-            count: _,
-            own,
-        } => { home.is_ours(engine) && own % home.yard().engines as u64 == engine.0 as u64 }
+        Record::Beginning(Beginning { engine, own, .. }) => {
+            home.is_ours(engine) && own % u64::from(home.yard().engines) == u64::from(engine.0)
+        }
         Record::Heard { engine, sign: _ } => home.is_ours(engine),
     }
 }
 
 impl SignalBox {
-    fn replay_kept(&mut self, call: Call) -> bool
-        ensures { (state_of self.new, result) ≡ kept_here (state_of self.old) call }
+    fn replay_kept(&mut self, call: Call) -> Option<()>
+        ensures { (state_of self.new, is_some result) ≡ kept_here (state_of self.old) call }
     {
-        if call.section.keeper.0 != self.home.number().0 {
-            return false;
+        if call.section.keeper != self.home.number() {
+            return None;
         }
-        let verdict = self.keeper.call(call);
-        is_used_up(verdict)
+        self.keeper.call(call).recorded()?;
+        Some(())
     }
 
-    fn replay_ours(&mut self, record: Record) -> bool
-        ensures { (state_of self.new, result) ≡ home_again (state_of self.old) «record» }
+    fn replay_ours(&mut self, record: Record) -> Option<()>
+        ensures { (state_of self.new, is_some result) ≡ home_again (state_of self.old) «record» }
     {
         if !is_sound(&self.home, record) {
-            return false;
+            return None;
         }
         self.home.apply(record);
-        true
+        Some(())
     }
 
-    // What a record makes of the box; false if it couldn't have been written.
-    fn replay(&mut self, record: Record) -> bool
-        ensures { (state_of self.new, result) ≡ replay_of (state_of self.old) «record» }
+    // What a record makes of the box; None if it couldn't have been written.
+    fn replay(&mut self, record: Record) -> Option<()>
+        ensures { (state_of self.new, is_some result) ≡ replay_of (state_of self.old) «record» }
     {
         match record {
             Record::Kept(call) => self.replay_kept(call),
-            Record::Made(_) | Record::Beginning { .. } | Record::Heard { .. } => self.replay_ours(
+            Record::Made(_) | Record::Beginning(_) | Record::Heard { .. } => self.replay_ours(
                 record,
             ),
         }
     }
 
-    // The box that the records stand for, or the index of the first that couldn't have been written.
-    pub fn open(yard: Yard, number: BoxNumber, records: &[Record]) -> Result<SignalBox, usize>
+    // The box that the records stand for.
+    pub fn open(yard: Yard, number: BoxNumber, records: &[Record]) -> Result<SignalBox, Unwritten>
         ensures { opened result ≡ open_from 0 records.now (fresh yard number) }
     {
         let mut opened = SignalBox::new(yard, number);
-        for i in 0..records.len() {
-            if !opened.replay(records[i]) {
-                return Err(i);
-            }
+        for (index, record) in records.iter().enumerate() {
+            opened.replay(*record).ok_or(Unwritten { index })?;
         }
         Ok(opened)
     }

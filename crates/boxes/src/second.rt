@@ -1,39 +1,27 @@
 // What is said again every second, and what is said on opening.
 ghost use Rattle.std.specs.Prelude.{◌≡◌, OnOk};
 ghost use Rattle.boxes.specs.Log.{log_of};
-ghost use Rattle.boxes.specs.Handle.{open_again, reminder_for, reminders_of, second_for, second_of, tell_again, wait_again};
+ghost use Rattle.boxes.specs.Handle.{reminder_for, reminders_of, second_for, second_of, wait_again};
 
 use crate::emit::{send, tell_waiters};
 use crate::signal_box::SignalBox;
 use engine_state::Wait;
 use home::Home;
 use journal::{Effects, Fault, Output};
-use messages::{Call, Engine, Message};
-
-fn send_again(call: Option<Call>, effects: &mut Effects) -> Result<(), Fault>
-    ensures { OnOk result (log_of effects.new ≡ open_again call (log_of effects.old)) }
-{
-    match call {
-        None => Ok(()),
-        Some(call) => send(call.section.keeper, Message::Call(call), effects),
-    }
-}
+use messages::{Engine, Message, Waits};
 
 // A wait, to the section's box, and the question what the last change is.
-fn wait_again(engine: Engine, wait: Option<Wait>, effects: &mut Effects) -> Result<(), Fault>
-    ensures { OnOk result (log_of effects.new ≡ wait_again engine wait (log_of effects.old)) }
+fn wait_again(engine: Engine, wait: Wait, effects: &mut Effects) -> Result<(), Fault>
+    ensures { OnOk result (log_of effects.new ≡ wait_again engine (Some wait) (log_of effects.old)) }
 {
-    let Some(wait) = wait else {
-        return Ok(());
-    };
     let section = wait.section;
-    let message = Message::Waits {
+    let waits = Waits {
         engine,
         section,
         count: wait.count,
         change: wait.change,
     };
-    send(section.keeper, message, effects)?;
+    send(section.keeper, Message::Waits(waits), effects)?;
     send(
         section.keeper,
         Message::WhichChange { engine, section },
@@ -41,26 +29,19 @@ fn wait_again(engine: Engine, wait: Option<Wait>, effects: &mut Effects) -> Resu
     )
 }
 
-fn tell_again(
-    home: &Home,
-    engine: Engine,
-    signs: Option<signs::Engine>,
-    effects: &mut Effects,
-) -> Result<(), Fault>
-    ensures { OnOk result (log_of effects.new ≡ tell_again home.now engine signs (log_of effects.old)) }
-{
-    match signs {
-        None => Ok(()),
-        Some(signs) => tell_waiters(home, engine, signs.shown, effects),
-    }
-}
-
 fn second_for(home: &Home, engine: Engine, effects: &mut Effects) -> Result<(), Fault>
     ensures { OnOk result (log_of effects.new ≡ second_for home.now engine (log_of effects.old)) }
 {
-    send_again(home.open_call(engine), effects)?;
-    wait_again(engine, home.wait(engine), effects)?;
-    tell_again(home, engine, home.signs(engine), effects)
+    if let Some(call) = home.open_call(engine) {
+        send(call.section.keeper, Message::Call(call), effects)?;
+    }
+    if let Some(wait) = home.wait(engine) {
+        wait_again(engine, wait, effects)?;
+    }
+    if let Some(signs) = home.signs(engine) {
+        tell_waiters(home, engine, signs.shown, effects)?;
+    }
+    Ok(())
 }
 
 fn remind(home: &Home, engine: Engine, effects: &mut Effects) -> Result<(), Fault>
@@ -78,8 +59,8 @@ impl SignalBox {
         ensures { OnOk result (log_of effects.new ≡ second_of self.now.home (log_of effects.old)) }
     {
         let engines = self.home.yard().engines;
-        for e in 0u8..engines {
-            second_for(&self.home, Engine(e), effects)?;
+        for engine in (0..engines).map(Engine) {
+            second_for(&self.home, engine, effects)?;
         }
         Ok(())
     }
@@ -89,8 +70,8 @@ impl SignalBox {
         ensures { OnOk result (log_of effects.new ≡ reminders_of self.now.home (log_of effects.old)) }
     {
         let engines = self.home.yard().engines;
-        for e in 0u8..engines {
-            remind(&self.home, Engine(e), effects)?;
+        for engine in (0..engines).map(Engine) {
+            remind(&self.home, engine, effects)?;
         }
         Ok(())
     }

@@ -7,8 +7,7 @@ use Rattle.messages.specs.declared.message.Act.TheVariants as act
 use Rattle.messages.specs.declared.message.Call.{Call}
 use Rattle.messages.specs.declared.message.Refusal.{Refusal}
 use Rattle.messages.specs.declared.message.Refusal.TheVariants as refusal
-use Rattle.signs.specs.declared.Wait as whom
-use Rattle.signs.specs.declared.Wait.TheVariants.{Nobody, For}
+use Rattle.signs.specs.Signs as whom
 use Rattle.engine_state.specs.declared.state.Mode.{Mode}
 use Rattle.engine_state.specs.declared.state.Mode.TheVariants as mode
 use Rattle.engine_state.specs.declared.state.Stored.{Stored}
@@ -37,8 +36,8 @@ abbrev pub open_of : State → Engine → Option Call
 open_of x e = if_pending x.known (call_of_mode x.stored.mode e)
 
 abbrev pub wait_for : whom.Wait → Section → ℕ → ℕ → Option Wait
-wait_for Nobody s count change = None
-wait_for (For e) s count change = Some (record { section = s; whom = record { 0 = e }; count = count; change = change })
+wait_for None s count change = None
+wait_for (Some e) s count change = Some (record { section = s; whom = record { 0 = e }; count = count; change = change })
 
 abbrev pub wait_of_mode : Mode → whom.Wait → ℕ → Option Wait
 wait_of_mode mode.Idle w count = None

@@ -6,14 +6,13 @@ use Rattle.messages.specs.declared.yard.Section.{Section}
 use Rattle.messages.specs.declared.message.Act.{Act}
 use Rattle.messages.specs.declared.message.Act.TheVariants as act
 use Rattle.messages.specs.declared.message.Call.{Call}
-use Rattle.messages.specs.declared.message.Holder.{Holder}
-use Rattle.messages.specs.declared.message.Holder.TheVariants as holder
+use Rattle.messages.specs.Holder.{Holder}
 use Rattle.messages.specs.declared.message.Refusal.{Refusal}
 use Rattle.messages.specs.declared.message.Refusal.TheVariants as refusal
 use Rattle.messages.specs.declared.message.Reply.{Reply}
 use Rattle.messages.specs.declared.message.Reply.TheVariants as reply
 use Rattle.signs.specs.declared.Engine as signs
-use Rattle.signs.specs.declared.Refusal as signRefusal
+use Rattle.signs.specs.declared.Refusal as sign_refusal
 use Rattle.signs.specs.declared.Refusal.TheVariants.{OutOfRange, Itself, Stale, Limit}
 use Rattle.signs.specs.declared.Heard as sound
 use Rattle.signs.specs.declared.Heard.TheVariants.{TellOn, Found, PassedOver}
@@ -28,23 +27,28 @@ use Rattle.engine_state.specs.State.{made, begun, heard, knowing}
 use Rattle.engine_state.specs.Calls.{open_of, wait_of, next_call}
 
 -- the refusals of signs, by the yard's numbers
-abbrev pub refused_for : signRefusal.Refusal → Refusal
+abbrev pub refused_for : sign_refusal.Refusal → Refusal
 refused_for OutOfRange = refusal.Malformed
 refused_for Itself = refusal.Mismatch
 refused_for Stale = refusal.Stale
 refused_for Limit = refusal.Exhausted
 
 abbrev pub is_engine : Holder → Engine → Bool
-is_engine holder.Nobody e = false
-is_engine (holder.Engine x) e = x.0 == e.0
+is_engine None e = false
+is_engine (Some x) e = x.0 == e.0
 
 -- turned away: nothing changes
 abbrev pub refuse : State → Refusal → State × Event
 refuse x r = (x, event.Refused r)
 
-abbrev pub begun_with : State → Engine → Section → ℕ → Engine → Result signs.Engine signRefusal.Refusal → State × Event
+-- what a step gave; where it turned the input away, nothing changes
+abbrev pub told : State → Result (State × Event) Refusal → State × Event
+told x (Err r) = refuse x r
+told x (Ok p) = p
+
+abbrev pub begun_with : State → Engine → Section → ℕ → Engine → Result signs.Engine sign_refusal.Refusal → State × Event
 begun_with x e s change whom (Err r) = refuse x (refused_for r)
-begun_with x e s change whom (Ok y) = (begun x s change whom y.count y.own, event.Began e s change whom y.count y.own)
+begun_with x e s change whom (Ok y) = (begun x s change whom y.count y.own, event.Began (record { engine = e; section = s; change = change; holder = whom; count = y.count; own = y.own }))
 
 -- the engine begins to wait for whom, or has no count or sign left
 abbrev pub begin_at : State → Engine → ℕ → Section → ℕ → Engine → State × Event
@@ -52,8 +56,8 @@ begin_at x e engines s change whom = begun_with x e s change whom (begin_of x.si
 
 -- a take is answered that another has the section
 abbrev pub waits_for : State → Call → ℕ → ℕ → Holder → State × Event
-waits_for x c engines change holder.Nobody = refuse x refusal.WrongCall
-waits_for x c engines change (holder.Engine e) =
+waits_for x c engines change None = refuse x refusal.WrongCall
+waits_for x c engines change (Some e) =
     cond (e.0 == c.engine.0) (refuse x refusal.WrongCall) (begin_at x c.engine engines c.section change e)
 
 -- refused by the keeper: for want of a number the call stays open, else its business ended so
@@ -99,8 +103,8 @@ unfoldable pub answer_at : State → BoxNumber → Engine → ℕ → ℕ → Re
 answer_at x from e engines n r h change = answered x engines r h change (awaited x from e n)
 
 abbrev pub passed_to : State → Engine → ℕ → Section → ℕ → Holder → State × Event
-passed_to x e engines s change holder.Nobody = (x, event.PassedOver)
-passed_to x e engines s change (holder.Engine y) =
+passed_to x e engines s change None = (x, event.PassedOver)
+passed_to x e engines s change (Some y) =
     cond (y.0 == e.0) (knowing x known.Had, event.Had e s) (begin_at x e engines s change y)
 
 -- a later change of the section that is waited for
@@ -120,7 +124,7 @@ gave_up_by x (Ok c) = (made x c, event.Found c)
 abbrev pub found_at : State → Engine → Section → State × Event
 found_at x e s = gave_up_by x (next_call x act.GiveUp e s)
 
-abbrev pub listened : State → Engine → Section → Result (signs.Engine × sound.Heard) signRefusal.Refusal → State × Event
+abbrev pub listened : State → Engine → Section → Result (signs.Engine × sound.Heard) sign_refusal.Refusal → State × Event
 listened x e s (Err r) = refuse x (refused_for r)
 listened x e s (Ok (y, TellOn sign)) = (heard x sign, event.Heard e sign)
 listened x e s (Ok (y, Found)) = found_at x e s

@@ -6,7 +6,6 @@ use Rattle.messages.specs.declared.yard.Section.{Section}
 use Rattle.messages.specs.declared.message.Act.{Act}
 use Rattle.messages.specs.declared.message.Act.TheVariants as act
 use Rattle.messages.specs.declared.message.Call.{Call}
-use Rattle.signs.specs.declared.Wait.TheVariants.{For}
 use Rattle.signs.specs.Signs.{idle, showing}
 use Rattle.engine_state.specs.declared.places.Places.{Places}
 use Rattle.engine_state.specs.declared.state.Mode.{Mode}
@@ -88,7 +87,7 @@ abbrev pub begun : State → Section → ℕ → Engine → ℕ → ℕ → Stat
 begun x s change whom count own = record {
   stored = record { mode = mode.Waiting s change; used = x.stored.used; kept = x.stored.kept; asked = x.stored.asked };
   known = known.Pending;
-  signs = record { wait = For whom.0; count = count; shown = own; own = own };
+  signs = record { wait = Some whom.0; count = count; shown = own; own = own };
 }
 
 -- a sign, heard: it is shown

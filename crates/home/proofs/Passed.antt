@@ -1,4 +1,5 @@
 -- A state that is put back where it stands changes nothing.
+use Rattle.std.specs.Prelude.{None}
 use Rattle.std.proofs.Common.{◌≡◌, ℕ, Bool, true, false, cond, None, sym, ap, ◌∙◌}
 use lib.Seq.{set-get_or}
 use Rattle.engine_state.specs.Calls.{wait_of}
@@ -6,11 +7,10 @@ use Rattle.engine_state.specs.Inputs.{change_at, is_later, passed_to}
 use Rattle.engine_state.specs.declared.state.Event.{Event}
 use Rattle.engine_state.specs.declared.state.Event.TheVariants as event
 use Rattle.engine_state.specs.declared.state.Known.TheVariants as known
-use Rattle.messages.specs.declared.message.Holder.{Holder}
+use Rattle.messages.specs.Holder.{Holder}
 use Rattle.messages.specs.declared.message.Refusal.TheVariants as refusal
 use Rattle.messages.specs.declared.yard.Engine.{Engine}
 use Rattle.messages.specs.declared.yard.Section.{Section}
-use Rattle.signs.specs.declared.Wait.TheVariants.{Nobody}
 use Rattle.home.specs.declared.home.Home.{Home}
 use Rattle.engine_state.specs.State.{unread}
 use Rattle.home.specs.Home.{at, is_ours, with}
@@ -22,7 +22,7 @@ same h e =
     rw (
       set-get_or h.stored e.0 unread,
       set-get_or h.known e.0 known.Pending,
-      set-get_or h.signs.waits e.0 Nobody,
+      set-get_or h.signs.waits e.0 None,
       set-get_or h.signs.counts e.0 0,
       set-get_or h.signs.shown e.0 0,
       set-get_or h.signs.own e.0 0,

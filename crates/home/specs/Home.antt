@@ -1,5 +1,6 @@
 -- The engines of a box, read and changed at one of them. Assumes nothing.
-use Rattle.std.specs.Prelude.{◌≡◌, ℕ, ◌%◌, Bool, true, false, cond, ◌&&◌, replicate, Ok, Err, Result, ◌==◌, nat_lt, slice_index_or, slice_set}
+use Rattle.std.specs.Prelude.{◌≡◌, ℕ, ◌%◌, Bool, true, false, cond, ◌&&◌, replicate, Ok, Err, Result, ◌==◌, nat_lt, slice_index_or, slice_set, None}
+use Rattle.std.specs.Bool.{MatchBool}
 use Rattle.messages.specs.declared.yard.BoxNumber.{BoxNumber}
 use Rattle.messages.specs.declared.yard.Engine.{Engine}
 use Rattle.messages.specs.declared.yard.Section.{Section}
@@ -12,7 +13,6 @@ use Rattle.messages.specs.declared.message.Refusal.TheVariants as refusal
 use Rattle.signs.specs.Table as table
 use Rattle.engine_state.specs.declared.state.Known.TheVariants as known
 use Rattle.engine_state.specs.declared.state.State.{State}
-use Rattle.home.specs.declared.home.Note.TheVariants as note
 use Rattle.home.specs.declared.home.Home.{Home}
 use Rattle.engine_state.specs.State.{blank, unread, made, begun, heard}
 
@@ -24,7 +24,7 @@ fresh_home y b = record {
   signs = table.fresh_of;
   stored = replicate 64 blank;
   known = replicate 64 known.Pending;
-  notes = replicate 64 note.Nothing;
+  notes = replicate 64 None;
 }
 
 -- the home of an engine is the box that its number leaves when divided by the number of boxes
@@ -58,6 +58,10 @@ IsState h e (Err r) = (is_ours h e ≡ false) × (r ≡ refusal.Malformed)
 abbrev pub if_ours : Home → Engine → (State → State) → Home
 if_ours h e f = cond (is_ours h e) (with h e (f (at h e))) h
 
+-- what is recorded of one of ours has changed it as told; whatever isn't ours is passed over
+abbrev pub Recorded : Home → Engine → (State → State → Type 0) → Home → Type 0
+Recorded h e Changes g = MatchBool (is_ours h e) ((x : State) × Changes (at h e) x × (g ≡ with h e x)) (g ≡ h)
+
 -- a call of one of ours, made
 abbrev pub made_of : Home → Call → Home
 made_of h c = if_ours h c.engine (λ x. made x c)
@@ -74,5 +78,5 @@ heard_of h e sign = if_ours h e (λ x. heard x sign)
 abbrev pub apply_of : Home → Record → Home
 apply_of h (journal.Kept c) = h
 apply_of h (journal.Made c) = made_of h c
-apply_of h (journal.Beginning e s change whom count own) = begun_of h e s change whom count own
+apply_of h (journal.Beginning start) = begun_of h start.engine start.section start.change start.holder start.count start.own
 apply_of h (journal.Heard e sign) = heard_of h e sign

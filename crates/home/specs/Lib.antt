@@ -1,3 +1,4 @@
+pub mod Noted
 pub mod Home
 pub mod Queries
 pub mod Inputs

@@ -1,4 +1,5 @@
 -- An answer, a change or a sign either changes nothing, or leaves a state in which it is turned away.
+use Rattle.std.specs.Prelude.{None, Some}
 use Rattle.std.proofs.Common.{◌≡◌, ℕ, ◌<◌, Bool, true, false, cond, ◌&&◌, eqb, ltb, ◌⊎◌, Some, None, Ok, Err, Option, Result, sym, refl, ap, ◌∙◌, subst, inl, inr, arith}
 use Rattle.std.proofs.lemmas.Bool.{ltb-true, le-ltb, ne_eqb, and_right, and_left}
 use Rattle.messages.specs.declared.yard.BoxNumber.{BoxNumber}
@@ -7,8 +8,7 @@ use Rattle.messages.specs.declared.yard.Section.{Section}
 use Rattle.messages.specs.declared.message.Act.{Act}
 use Rattle.messages.specs.declared.message.Act.TheVariants as act
 use Rattle.messages.specs.declared.message.Call.{Call}
-use Rattle.messages.specs.declared.message.Holder.{Holder}
-use Rattle.messages.specs.declared.message.Holder.TheVariants as holder
+use Rattle.messages.specs.Holder.{Holder}
 use Rattle.messages.specs.declared.message.Refusal.{Refusal}
 use Rattle.messages.specs.declared.message.Refusal.TheVariants as refusal
 use Rattle.messages.specs.declared.message.Reply.{Reply}
@@ -59,9 +59,9 @@ ordered_kept e x (event.Had f s) y b o = subst Ordered (sym b) o
 ordered_kept e x event.Closed y b o = subst Ordered (sym b) o
 ordered_kept e x (event.Called c) y b o = subst Ordered (sym b.1) o
 ordered_kept e x (event.Found c) y b o = subst Ordered (sym b.1) o
-ordered_kept e x (event.Began f s c w n own) y b o = subst Ordered (sym b.1) (omega arith)
+ordered_kept e x (event.Began start) y b o = subst Ordered (sym b.1) (omega arith)
 ordered_kept e x (event.Heard f s) y b o = subst Ordered (sym b.2) (omega (arith, b.1))
-ordered_kept e x (event.Noted to n by s) y b o = subst Ordered (sym b) o
+ordered_kept e x (event.Noted telling) y b o = subst Ordered (sym b) o
 
 -- nothing changed, or what then stands turns it away
 abbrev Settled : (State → Type 0) → State → State × Event → Type 0
@@ -88,8 +88,8 @@ refused_shut e x y refusal.Stale shut = inr shut
 refused_shut e x y refusal.Exhausted shut = inl refl
 
 waits_shut : (e : Engine) (x : State) (c : Call) (engines change : ℕ) (h : Holder) → Settled (Shut e) x (waits_for x c engines change h)
-waits_shut e x c engines change holder.Nobody = inl refl
-waits_shut e x c engines change (holder.Engine f) =
+waits_shut e x c engines change None = inl refl
+waits_shut e x c engines change (Some f) =
     either (Shut e) x (eqb f.0 c.engine.0) (x, event.Refused refusal.WrongCall) (begin_at x c.engine engines c.section change f) (inl refl)
     (begun_shut e c.engine x c.section change f (begin_of x.signs c.engine.0 engines f.0))
 
@@ -137,8 +137,8 @@ begun_past e x s change whom (Err r) = inl refl
 begun_past e x s change whom (Ok y) = inr (and_right (same_section s s) (ltb change change) (le-ltb change change (omega arith)))
 
 passed_past : (e : Engine) (x : State) (engines : ℕ) (s : Section) (change : ℕ) (h : Holder) → Settled (Past s change) x (passed_to x e engines s change h)
-passed_past e x engines s change holder.Nobody = inl refl
-passed_past e x engines s change (holder.Engine f) =
+passed_past e x engines s change None = inl refl
+passed_past e x engines s change (Some f) =
     either (Past s change) x (eqb f.0 e.0) (knowing x known.Had, event.Had e s) (begin_at x e engines s change f) (inr refl)
     (begun_past e x s change f (begin_of x.signs e.0 engines f.0))
 

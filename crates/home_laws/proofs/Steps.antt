@@ -1,4 +1,5 @@
 -- Input by input: what an event tells of its engine, put into the home.
+use Rattle.std.specs.Prelude.{None, Some}
 use Rattle.std.proofs.Common.{◌≡◌, ℕ, Bool, true, false, cond, not, ◌||◌, leb, List, set, Some, None, Ok, Err, Option, Result, sym, refl, ap, ◌∙◌, subst, inl, inr}
 use lib.Seq.{set-get_or}
 use Rattle.std.proofs.lemmas.Bool.{cond-true}
@@ -7,8 +8,7 @@ use Rattle.messages.specs.declared.yard.Section.{Section}
 use Rattle.messages.specs.declared.message.Call.{Call}
 use Rattle.messages.specs.declared.message.Refusal.{Refusal}
 use Rattle.messages.specs.declared.message.Refusal.TheVariants as refusal
-use Rattle.signs.specs.declared.Wait as whom
-use Rattle.signs.specs.declared.Wait.TheVariants.{Nobody}
+use Rattle.signs.specs.Signs as whom
 use Rattle.signs.specs.declared.table.Engines.{Engines}
 use Rattle.signs.specs.Table as table
 use Rattle.engine_state.specs.declared.state.Event.{Event}
@@ -20,7 +20,6 @@ use Rattle.engine_state.specs.declared.state.Stored.{Stored}
 use Rattle.engine_state.specs.State.{made, begun, heard, knowing, unread}
 use Rattle.engine_state.specs.Inputs.{answer_at, change_at, sign_at}
 use Rattle.home.specs.declared.home.Home.{Home}
-use Rattle.home.specs.declared.home.Note.TheVariants as note
 use Rattle.home.specs.Home.{is_home, is_ours, at, with, if_ours}
 use Rattle.home.specs.Queries.{note_at, holder_of}
 use Rattle.home.specs.Inputs.{has_section, taking, freeing, taken, freed, put_in, at_ours, is_older, with_notes, noted_for}
@@ -35,7 +34,7 @@ same_table a b c d = cc
 
 -- putting back what was read changes nothing
 table_same : (t : Engines) (e : ℕ) → table.with t e (table.engine_at t e) ≡ t
-table_same t e = same_table (set-get_or t.waits e Nobody) (set-get_or t.counts e 0) (set-get_or t.shown e 0) (set-get_or t.own e 0)
+table_same t e = same_table (set-get_or t.waits e None) (set-get_or t.counts e 0) (set-get_or t.shown e 0) (set-get_or t.own e 0)
 
 with_parts : (h : Home) (t : Engines) (xs : List Stored) (ks : List Known) → t ≡ h.signs → xs ≡ h.stored → ks ≡ h.known →
     ◌≡◌ {A = Home} (record { yard = h.yard; number = h.number; signs = t; stored = xs; known = ks; notes = h.notes }) h
@@ -52,9 +51,9 @@ quiet e x (event.Had f s) y t b = absurd t
 quiet e x event.Closed y t b = absurd t
 quiet e x (event.Called c) y t b = absurd t
 quiet e x (event.Found c) y t b = absurd t
-quiet e x (event.Began f s c w n o) y t b = absurd t
+quiet e x (event.Began start) y t b = absurd t
 quiet e x (event.Heard f s) y t b = absurd t
-quiet e x (event.Noted to n by s) y t b = absurd t
+quiet e x (event.Noted telling) y t b = absurd t
 
 abbrev Still : Home → Home × Event → Type 0
 Still h p = TurnedAway p.1 → p.0 ≡ h
@@ -80,7 +79,7 @@ still_freed h s (Ok c) t = absurd t
 still_noted : (h : Home) (e : Engine) (s : Section) (count : ℕ) (o : Option Engine) → Still h (noted_for h e s count o)
 still_noted h e s count None = λ t. refl
 still_noted h e s count (Some by) =
-    still_either h (leb 64 e.0 || is_older count (note_at h e)) (h, event.PassedOver) (cond (is_ours h by) (with_notes h (set h.notes e.0 (note.Waits s count)), event.Noted e count by (at h by).signs.shown) (h, event.PassedOver)) (λ t. refl) (still_either h (is_ours h by) (with_notes h (set h.notes e.0 (note.Waits s count)), event.Noted e count by (at h by).signs.shown) (h, event.PassedOver) (λ t. absurd t) (λ t. refl))
+    still_either h (leb 64 e.0 || is_older count (note_at h e)) (h, event.PassedOver) (cond (is_ours h by) (with_notes h (set h.notes e.0 (Some (record { section = s; count = count }))), event.Noted (record { to = e; count = count; by = by; sign = (at h by).signs.shown })) (h, event.PassedOver)) (λ t. refl) (still_either h (is_ours h by) (with_notes h (set h.notes e.0 (Some (record { section = s; count = count }))), event.Noted (record { to = e; count = count; by = by; sign = (at h by).signs.shown })) (h, event.PassedOver) (λ t. absurd t) (λ t. refl))
 
 pub turned_away_changes_nothing : TurnedAwayChangesNothing
 turned_away_changes_nothing h (take e s) = still_taken h (taking h e s)
@@ -126,9 +125,9 @@ filed h e ours (event.Had f s) y b = known_only h e known.Had y b
 filed h e ours event.Closed y b = known_only h e known.Closed y b
 filed h e ours (event.Called c) y b = recorded h e c.engine (λ (x : State). made x c) y ours b.0 b.1
 filed h e ours (event.Found c) y b = recorded h e c.engine (λ (x : State). made x c) y ours b.0 b.1
-filed h e ours (event.Began f s c w n o) y b = recorded h e f (λ (x : State). begun x s c w n o) y ours b.0 b.1
+filed h e ours (event.Began start) y b = recorded h e start.engine (λ (x : State). begun x start.section start.change start.holder start.count start.own) y ours b.0 b.1
 filed h e ours (event.Heard f s) y b = recorded h e f (λ (x : State). heard x s) y ours b.0 b.2
-filed h e ours (event.Noted to n by s) y b = nothing h e y b
+filed h e ours (event.Noted telling) y b = nothing h e y b
 
 filed_at : (h : Home) (e : Engine) (f : State → State × Event) → Tells e (at h e) (f (at h e)) → Filed h (at_ours h e f)
 filed_at h e f tells = by-ours (is_ours h e) refl
@@ -148,7 +147,7 @@ filed_freed h s (Ok c) = refl
 filed_noted : (h : Home) (e : Engine) (s : Section) (count : ℕ) (o : Option Engine) → Filed h (noted_for h e s count o)
 filed_noted h e s count None = refl
 filed_noted h e s count (Some by) =
-    filed_either h (leb 64 e.0 || is_older count (note_at h e)) (h, event.PassedOver) (cond (is_ours h by) (with_notes h (set h.notes e.0 (note.Waits s count)), event.Noted e count by (at h by).signs.shown) (h, event.PassedOver)) refl (filed_either h (is_ours h by) (with_notes h (set h.notes e.0 (note.Waits s count)), event.Noted e count by (at h by).signs.shown) (h, event.PassedOver) refl refl)
+    filed_either h (leb 64 e.0 || is_older count (note_at h e)) (h, event.PassedOver) (cond (is_ours h by) (with_notes h (set h.notes e.0 (Some (record { section = s; count = count }))), event.Noted (record { to = e; count = count; by = by; sign = (at h by).signs.shown })) (h, event.PassedOver)) refl (filed_either h (is_ours h by) (with_notes h (set h.notes e.0 (Some (record { section = s; count = count }))), event.Noted (record { to = e; count = count; by = by; sign = (at h by).signs.shown })) (h, event.PassedOver) refl refl)
 
 pub stored_by_record : StoredByRecord
 stored_by_record h (take e s) = filed_taken h (taking h e s)

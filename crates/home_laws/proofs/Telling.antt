@@ -1,4 +1,5 @@
 -- Case by case along the definitions: each way ends in a state that its event tells.
+use Rattle.std.specs.Prelude.{None, Some}
 use Rattle.std.proofs.Common.{◌≡◌, ℕ, ◌<◌, Bool, true, false, cond, ◌&&◌, eqb, ltb, ◌⊎◌, Some, None, Ok, Err, Option, Result, refl, subst, inl, inr}
 use Rattle.std.proofs.lemmas.Bool.{ltb-true}
 use Rattle.messages.specs.declared.yard.BoxNumber.{BoxNumber}
@@ -7,8 +8,7 @@ use Rattle.messages.specs.declared.yard.Section.{Section}
 use Rattle.messages.specs.declared.message.Act.{Act}
 use Rattle.messages.specs.declared.message.Act.TheVariants as act
 use Rattle.messages.specs.declared.message.Call.{Call}
-use Rattle.messages.specs.declared.message.Holder.{Holder}
-use Rattle.messages.specs.declared.message.Holder.TheVariants as holder
+use Rattle.messages.specs.Holder.{Holder}
 use Rattle.messages.specs.declared.message.Refusal.{Refusal}
 use Rattle.messages.specs.declared.message.Refusal.TheVariants as refusal
 use Rattle.messages.specs.declared.message.Reply.{Reply}
@@ -52,8 +52,8 @@ refused_tells e x y refusal.Stale is = is
 refused_tells e x y refusal.Exhausted is = refl
 
 waits_tells : (x : State) (c : Call) (engines change : ℕ) (h : Holder) → Tells c.engine x (waits_for x c engines change h)
-waits_tells x c engines change holder.Nobody = refl
-waits_tells x c engines change (holder.Engine f) = either c.engine x (eqb f.0 c.engine.0) _ _ refl (begin_tells c.engine x engines c.section change f)
+waits_tells x c engines change None = refl
+waits_tells x c engines change (Some f) = either c.engine x (eqb f.0 c.engine.0) _ _ refl (begin_tells c.engine x engines c.section change f)
 
 taken_tells : (x : State) (c : Call) (engines : ℕ) (r : Reply) (h : Holder) (change : ℕ) → Tells c.engine x (taken_by x c engines r h change)
 taken_tells x c engines reply.Done h change = refl
@@ -107,8 +107,8 @@ answer_tells x from e engines n r h change =
     answered_tells e x engines r h change (awaited x from e n) (its_that e from n (open_of x e) (its_pending e x.known (call_of_mode x.stored.mode e) (its_mode e x.stored.mode)))
 
 passed_tells : (e : Engine) (x : State) (engines : ℕ) (s : Section) (change : ℕ) (h : Holder) → Tells e x (passed_to x e engines s change h)
-passed_tells e x engines s change holder.Nobody = refl
-passed_tells e x engines s change (holder.Engine f) = either e x (eqb f.0 e.0) _ _ refl (begin_tells e x engines s change f)
+passed_tells e x engines s change None = refl
+passed_tells e x engines s change (Some f) = either e x (eqb f.0 e.0) _ _ refl (begin_tells e x engines s change f)
 
 change_tells : (x : State) (e : Engine) (engines : ℕ) (s : Section) (h : Holder) (change : ℕ) → Tells e x (change_at x e engines s h change)
 unfolding change_at

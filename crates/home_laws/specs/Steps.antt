@@ -3,7 +3,7 @@ use Rattle.std.specs.Prelude.{◌≡◌, ℕ, List, Some, None, Option}
 use Rattle.messages.specs.declared.yard.BoxNumber.{BoxNumber}
 use Rattle.messages.specs.declared.yard.Engine.{Engine}
 use Rattle.messages.specs.declared.yard.Section.{Section}
-use Rattle.messages.specs.declared.message.Holder.{Holder}
+use Rattle.messages.specs.Holder.{Holder}
 use Rattle.messages.specs.declared.message.Record.{Record}
 use Rattle.messages.specs.declared.message.Record.TheVariants as journal
 use Rattle.messages.specs.declared.message.Reply.{Reply}
@@ -41,9 +41,9 @@ TurnedAway (event.Had e s) = ⊥
 TurnedAway event.Closed = ⊥
 TurnedAway (event.Called c) = ⊥
 TurnedAway (event.Found c) = ⊥
-TurnedAway (event.Began e s c whom n own) = ⊥
+TurnedAway (event.Began start) = ⊥
 TurnedAway (event.Heard e s) = ⊥
-TurnedAway (event.Noted to n by s) = ⊥
+TurnedAway (event.Noted telling) = ⊥
 
 -- what is turned away changes nothing
 abbrev pub TurnedAwayChangesNothing : Type 0
@@ -62,9 +62,9 @@ record_of (event.Had e s) = None
 record_of event.Closed = None
 record_of (event.Called c) = Some (journal.Made c)
 record_of (event.Found c) = Some (journal.Made c)
-record_of (event.Began e s c whom n own) = Some (journal.Beginning e s c whom n own)
+record_of (event.Began start) = Some (journal.Beginning (record { engine = start.engine; section = start.section; change = start.change; holder = start.holder; count = start.count; own = start.own }))
 record_of (event.Heard e s) = Some (journal.Heard e s)
-record_of (event.Noted to n by s) = None
+record_of (event.Noted telling) = None
 
 abbrev pub applied : Home → Option Record → Home
 applied h None = h

@@ -3,7 +3,7 @@ use Rattle.std.specs.Prelude.{◌≡◌, ℕ, ◌<◌, ◌⊎◌}
 use Rattle.messages.specs.declared.yard.BoxNumber.{BoxNumber}
 use Rattle.messages.specs.declared.yard.Engine.{Engine}
 use Rattle.messages.specs.declared.yard.Section.{Section}
-use Rattle.messages.specs.declared.message.Holder.{Holder}
+use Rattle.messages.specs.Holder.{Holder}
 use Rattle.messages.specs.declared.message.Reply.{Reply}
 use Rattle.engine_state.specs.declared.state.Event.{Event}
 use Rattle.engine_state.specs.declared.state.Event.TheVariants as event
@@ -21,9 +21,9 @@ Became e x (event.Had f s) y = y ≡ knowing x known.Had
 Became e x event.Closed y = y ≡ knowing x known.Closed
 Became e x (event.Called c) y = (c.engine ≡ e) × (y ≡ made x c)
 Became e x (event.Found c) y = (c.engine ≡ e) × (y ≡ made x c)
-Became e x (event.Began f s change whom count own) y = (f ≡ e) × (y ≡ begun x s change whom count own)
+Became e x (event.Began start) y = (start.engine ≡ e) × (y ≡ begun x start.section start.change start.holder start.count start.own)
 Became e x (event.Heard f sign) y = (f ≡ e) × (x.signs.shown < sign) × (y ≡ heard x sign)
-Became e x (event.Noted to count by sign) y = y ≡ x
+Became e x (event.Noted telling) y = y ≡ x
 
 abbrev pub Tells : Engine → State → State × Event → Type 0
 Tells e x p = Became e x p.1 p.0

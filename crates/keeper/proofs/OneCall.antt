@@ -7,13 +7,11 @@ use Rattle.messages.specs.declared.message.Act.TheVariants as act
 use Rattle.messages.specs.declared.message.Call.{Call}
 use Rattle.sections.specs.declared.Done.{Done}
 use Rattle.sections.specs.declared.Done.TheVariants as did
-use Rattle.sections.specs.declared.Holder.{Holder}
-use Rattle.sections.specs.declared.Holder.TheVariants as has
 use Rattle.sections.specs.declared.Refusal.{Refusal}
 use Rattle.sections.specs.declared.Refusal.TheVariants as refused
-use Rattle.sections.specs.Table.{Outcome, Section, Table, changeable, free_by, free_outcome, give_up_outcome, holder_at, idle, is_in, known, refusal_of, place_at, settle, take_by, take_outcome, unless}
+use Rattle.sections.specs.Table.{Holder, Outcome, Section, Table, changeable, free_by, free_outcome, give_up_outcome, holder_at, idle, is_in, known, refusal_of, place_at, settle, take_by, take_outcome, unless}
 use Rattle.sections.specs.Layout.{section_of}
-use Rattle.keeper.specs.declared.Answer.{Answer}
+use Rattle.messages.specs.declared.message.Answer.{Answer}
 use Rattle.keeper.specs.declared.LastCall.{LastCall}
 use Rattle.keeper.specs.declared.Verdict.{Verdict}
 use Rattle.keeper.specs.declared.Verdict.TheVariants as verdict
@@ -40,24 +38,13 @@ turn_means last n =
 same_turn : (n : ℕ) → (n ≡ 0 → ⊥) → turn_of n n ≡ turn.Last
 same_turn n h = rw (ne_eqb n 0 h, eq-eqb n n refl) refl
 
-ok_not_err : (done : Done) (r : Refusal) → ◌≡◌ {A = Result Done Refusal} (Ok done) (Err r) → ⊥
-ok_not_err done r q = let z : ◌≡◌ {A = ℕ} 0 1 = cc in omega arith
-
-abbrev is_let_go : Done → ℕ
-is_let_go did.Had = 0
-is_let_go (did.Waits _) = 0
-is_let_go (did.LetGo _) = 1
-is_let_go did.Left = 0
-
-other_done : (done : Done) (to : Holder) → ◌≡◌ {A = Result Done Refusal} (Ok done) (Ok (did.LetGo to)) → is_let_go done ≡ 0 → ⊥
-other_done done to q h = let d : done ≡ did.LetGo to = cc in let z : ◌≡◌ {A = ℕ} 1 0 = sym (ap is_let_go d) ∙ h in omega arith
-
-same_to : (x to : Holder) → ◌≡◌ {A = Result Done Refusal} (Ok (did.LetGo x)) (Ok (did.LetGo to)) → x ≡ to
-same_to x to q = cc
+-- the sections answer the same
+abbrev Answered : Result Done Refusal → Result Done Refusal → Type 0
+Answered r s = r ≡ s
 
 -- refused, the sections are as they were
 settle_err : (t : Table) (p : ℕ) (o : Outcome) (after : Table) (r : Refusal) → settle t p o ≡ (after, Err r) → after ≡ t
-settle_err t p (Ok (s, done)) after r q = absurd (ok_not_err done r (ap (λ x. x.1) q))
+settle_err t p (Ok (s, done)) after r q = let e : Answered (Ok done) (Err r) = ap (λ x. x.1) q in cc
 settle_err t p (Err x) after r q = sym (ap (λ x. x.0) q)
 
 do_err : (a : Act) (t : Table) (e p : ℕ) (after : Table) (r : Refusal) → do_by a t e p ≡ (after, Err r) → after ≡ t
@@ -74,24 +61,26 @@ LetGoTo (Ok (s, did.Left)) = Unit {0}
 LetGoTo (Err r) = Unit {0}
 
 take_names : (h : Holder) (s : Section) (e : ℕ) → LetGoTo (take_by h s e)
-take_names has.Free s e = cond_both (changeable s) _ _ LetGoTo (λ _. tt) (λ _. tt)
-take_names (has.Engine x) s e = cond_both (eqb x e) _ _ LetGoTo (λ _. tt) (λ _. tt)
+take_names None s e = cond_both (changeable s) _ _ LetGoTo (λ _. tt) (λ _. tt)
+take_names (Some x) s e = cond_both (eqb x e) _ _ LetGoTo (λ _. tt) (λ _. tt)
 
 free_names : (h : Holder) (s : Section) (e : ℕ) → LetGoTo (free_by h s e)
-free_names has.Free s e = tt
-free_names (has.Engine x) s e = cond_both (eqb x e) _ _ LetGoTo (λ _. cond_both (changeable s) _ _ LetGoTo (λ _. refl) (λ _. tt)) (λ _. tt)
+free_names None s e = tt
+free_names (Some x) s e = cond_both (eqb x e) _ _ LetGoTo (λ _. cond_both (changeable s) _ _ LetGoTo (λ _. refl) (λ _. tt)) (λ _. tt)
 
 unless_names : (r : Option Refusal) (o : Outcome) → LetGoTo o → LetGoTo (unless r o)
 unless_names (Some r) o h = tt
 unless_names None o h = h
 
 settle_names : (t : Table) (p : ℕ) (o : Outcome) → LetGoTo o → (after : Table) (to : Holder) → p < length t → settle t p o ≡ (after, Ok (did.LetGo to)) → holder_at after p ≡ to
-settle_names t p (Ok (s, did.Had)) names after to h q = absurd (other_done did.Had to (ap (λ x. x.1) q) refl)
-settle_names t p (Ok (s, did.Waits x)) names after to h q = absurd (other_done (did.Waits x) to (ap (λ x. x.1) q) refl)
+settle_names t p (Ok (s, did.Had)) names after to h q = let e : Answered (Ok did.Had) (Ok (did.LetGo to)) = ap (λ x. x.1) q in cc
+settle_names t p (Ok (s, did.Waits x)) names after to h q = let e : Answered (Ok (did.Waits x)) (Ok (did.LetGo to)) = ap (λ x. x.1) q in cc
 settle_names t p (Ok (s, did.LetGo x)) names after to h q =
-    sym (ap (λ x. holder_at x.0 p) q) ∙ ap (λ x. x.has) (get_or-set_same t p s idle h) ∙ names ∙ same_to x to (ap (λ x. x.1) q)
-settle_names t p (Ok (s, did.Left)) names after to h q = absurd (other_done did.Left to (ap (λ x. x.1) q) refl)
-settle_names t p (Err x) names after to h q = absurd (ok_not_err (did.LetGo to) x (sym (ap (λ x. x.1) q)))
+    let e : Answered (Ok (did.LetGo x)) (Ok (did.LetGo to)) = ap (λ x. x.1) q in
+    let same : x ≡ to = cc in
+    sym (ap (λ x. holder_at x.0 p) q) ∙ ap (λ x. x.has) (get_or-set_same t p s idle h) ∙ names ∙ same
+settle_names t p (Ok (s, did.Left)) names after to h q = let e : Answered (Ok did.Left) (Ok (did.LetGo to)) = ap (λ x. x.1) q in cc
+settle_names t p (Err x) names after to h q = let e : Answered (Err x) (Ok (did.LetGo to)) = ap (λ x. x.1) q in cc
 
 do_names : (a : Act) (t : Table) (e p : ℕ) (after : Table) (to : Holder) → p < length t → do_by a t e p ≡ (after, Ok (did.LetGo to)) → holder_at after p ≡ to
 do_names act.Take t e p = settle_names t p (take_outcome t e p) (unless_names (refusal_of t e p) _ (take_names (place_at t p).has (place_at t p) e))
@@ -137,8 +126,8 @@ module _ (k : State) (whole : length k.calls ≡ 64) (long : length k.table ≡ 
       ruled : (c.engine.0 < 64) × (c.section.place < 64) → IsNext k c → (t : Table) (r : Result Done Refusal) → ask_of k.table c ≡ (t, r) → Followed k c (ruled_of k c (t, r)).0 (ruled_of k c (t, r)).1
       ruled h n t (Ok did.Had) q = (n, (did.Had, q, refl), used_up h.0 _, (refl, refl))
       ruled h n t (Ok (did.Waits x)) q = (n, (did.Waits x, q, refl), used_up h.0 _, (refl, refl))
-      ruled h n t (Ok (did.LetGo has.Free)) q = (n, (did.LetGo has.Free, q, refl), used_up h.0 _, (refl, refl))
-      ruled h n t (Ok (did.LetGo (has.Engine x))) q = ((n, (did.LetGo (has.Engine x), q, refl), used_up h.0 _, (refl, refl)), (x, ap holder_of (do_names c.act k.table c.engine.0 c.section.place t (has.Engine x) (omega arith) q)))
+      ruled h n t (Ok (did.LetGo None)) q = (n, (did.LetGo None, q, refl), used_up h.0 _, (refl, refl))
+      ruled h n t (Ok (did.LetGo (Some x))) q = ((n, (did.LetGo (Some x), q, refl), used_up h.0 _, (refl, refl)), (x, ap holder_of (do_names c.act k.table c.engine.0 c.section.place t (Some x) (omega arith) q)))
       ruled h n t (Ok did.Left) q = (n, (did.Left, q, refl), used_up h.0 _, (refl, refl))
       ruled h n t (Err refused.OutOfRange) q = unchanged t (do_err c.act k.table c.engine.0 c.section.place t refused.OutOfRange q)
       ruled h n t (Err refused.Waiting) q = (do_err c.act k.table c.engine.0 c.section.place t refused.Waiting q, n, refl, used_up h.0 _, (refl, refl))
@@ -197,20 +186,11 @@ module _ (k : State) (whole : length k.calls ≡ 64) (long : length k.table ≡ 
   out_of_range : known c.engine.0 c.section.place ≡ false → call_of k c ≡ (k, verdict.Malformed)
   out_of_range h = ap (λ b. cond b (numbered_of (turn_of (last_of k c.engine.0).number c.number) k c) (k, verdict.Malformed)) h
 
-  abbrev IsMalformed : Verdict → ℕ
-  IsMalformed verdict.Malformed = 1
-  IsMalformed verdict.PassedOver = 0
-  IsMalformed (verdict.Again a) = 0
-  IsMalformed (verdict.AtLimit a) = 0
-  IsMalformed (verdict.Refused r a) = 0
-  IsMalformed (verdict.Done a) = 0
-  IsMalformed (verdict.PassedOn a) = 0
-
-  in_range : (after : State) (v : Verdict) → (after, v) ≡ call_of k c → IsMalformed v ≡ 0 → known c.engine.0 c.section.place ≡ true
+  in_range : (after : State) (v : Verdict) → (after, v) ≡ call_of k c → (v ≡ verdict.Malformed → ⊥) → known c.engine.0 c.section.place ≡ true
   in_range after v q z =
       elim (cases_Bool (known c.engine.0 c.section.place)) [
         | inl h ↦ h
-        | inr h ↦ let one : ◌≡◌ {A = ℕ} 0 1 = sym z ∙ ap (λ s. IsMalformed s.1) (q ∙ out_of_range h) in absurd (omega arith)
+        | inr h ↦ absurd (z (ap (λ s. s.1) (q ∙ out_of_range h)))
       ]
 
   same : (after : State) (v : Verdict) → (after, v) ≡ call_of k c → after ≡ k → call_of after c ≡ (after, v)
@@ -224,9 +204,9 @@ module _ (k : State) (whole : length k.calls ≡ 64) (long : length k.table ≡ 
   again after verdict.PassedOver q f = same after verdict.PassedOver q f.0
   again after (verdict.Again a) q f = same after (verdict.Again a) q f.0
   again after (verdict.AtLimit a) q f = same after (verdict.AtLimit a) q f.0
-  again after (verdict.Refused r a) q f = repeated after a (in_range after (verdict.Refused r a) q refl) (above f.1) f.3
-  again after (verdict.Done a) q f = repeated after a (in_range after (verdict.Done a) q refl) (above f.0) f.2
-  again after (verdict.PassedOn a) q f = repeated after a (in_range after (verdict.PassedOn a) q refl) (above f.0.0) f.0.2
+  again after (verdict.Refused r a) q f = repeated after a (in_range after (verdict.Refused r a) q (λ e. cc)) (above f.1) f.3
+  again after (verdict.Done a) q f = repeated after a (in_range after (verdict.Done a) q (λ e. cc)) (above f.0) f.2
+  again after (verdict.PassedOn a) q f = repeated after a (in_range after (verdict.PassedOn a) q (λ e. cc)) (above f.0.0) f.0.2
 
 -- a box has 64 sections
 pub long_of : (k : Keeper) → length (model_of k).table ≡ 64

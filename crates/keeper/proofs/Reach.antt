@@ -1,7 +1,7 @@
 -- A keeper names no engine beyond those that call it: by what a call makes of one section.
-use Rattle.std.proofs.Common.{◌≡◌, ℕ, ◌+◌, ◌<◌, true, false, not, eqb, List, [], ◌∷◌, ◌++◌, length, get_or, set, replicate, Some, None, Ok, Err, Option, Result, sym, refl, ◌∙◌, inl, inr}
+use Rattle.std.proofs.Common.{◌≡◌, ℕ, ◌+◌, ◌<◌, true, not, eqb, List, [], ◌∷◌, ◌++◌, length, get_or, set, replicate, Some, None, Ok, Err, Option, Result, sym, refl, ◌∙◌, inl, inr}
 use Rattle.std.proofs.lemmas.List.{get_or_past, get_or-replicate, length-replicate}
-use Rattle.std.proofs.lemmas.Bool.{and_parts, both_ways, cases_lt, cond_both, eq-eqb, eqb-true, or_cases, or_left, or_right}
+use Rattle.std.proofs.lemmas.Bool.{and_parts, cases_lt, cond_both, eq-eqb, eqb-true, or_cases, or_left, or_right}
 use Rattle.messages.specs.declared.yard.Yard.{Yard}
 use Rattle.messages.specs.declared.message.Act.{Act}
 use Rattle.messages.specs.declared.message.Act.TheVariants as act
@@ -9,13 +9,11 @@ use Rattle.messages.specs.declared.message.Call.{Call}
 use Rattle.messages.specs.Range.{HolderIn}
 use Rattle.sections.specs.declared.Done.{Done}
 use Rattle.sections.specs.declared.Done.TheVariants as did
-use Rattle.sections.specs.declared.Holder.{Holder}
-use Rattle.sections.specs.declared.Holder.TheVariants as has
 use Rattle.sections.specs.declared.Refusal.{Refusal}
 use Rattle.sections.specs.declared.Refusal.TheVariants as refused
-use Rattle.sections.specs.Table.{Outcome, Section, Table, changeable, first_of, free_by, free_outcome, give_up_outcome, give_up_section, idle, is_in, known, refusal_of, rest_of, place_at, settle, take_by, take_outcome, unless}
+use Rattle.sections.specs.Table.{Holder, Outcome, Section, Table, changeable, first_of, free_by, free_outcome, give_up_outcome, give_up_section, idle, is_in, known, refusal_of, rest_of, place_at, settle, take_by, take_outcome, unless}
 use Rattle.sections.proofs.Lists.{is_in_push, is_in_without}
-use Rattle.sections.proofs.Sound.{not_both, same_engine}
+use Rattle.sections.proofs.Sound.{same_engine}
 use Rattle.sections.proofs.Tables.{put_read, set_read}
 use Rattle.keeper.specs.declared.LastCall.{LastCall}
 use Rattle.keeper.specs.declared.Verdict.{Verdict}
@@ -45,18 +43,18 @@ module _ (y : Yard) where
       elim (or_cases (eqb e x) (is_in x xs) (sym (is_in_push x e xs) ∙ w)) [ inl q ↦ rw (eqb-true e x q) at h | inr q ↦ all x q ]
 
   take_within : (by : Holder) (s : Section) (e : ℕ) → s.has ≡ by → e < y.engines → SectionWithin y s → OutcomeWithin (take_by by s e)
-  take_within has.Free s e q h w =
-      cond_both (changeable s) _ _ OutcomeWithin (λ _. (λ x r. rw (same_engine (has.Engine e) e x refl r) at h, w.1)) (λ _. tt)
-  take_within (has.Engine f) s e q h w = cond_both (eqb f e) _ _ OutcomeWithin (λ _. tt) (λ _. (w.0, pushed s.queue e h w.1))
+  take_within None s e q h w =
+      cond_both (changeable s) _ _ OutcomeWithin (λ _. (λ x r. rw (same_engine (Some e) e x refl r) at h, w.1)) (λ _. tt)
+  take_within (Some f) s e q h w = cond_both (eqb f e) _ _ OutcomeWithin (λ _. tt) (λ _. (w.0, pushed s.queue e h w.1))
 
   passed : (c : ℕ) (xs : List ℕ) → ((x : ℕ) → is_in x xs ≡ true → x < y.engines) → SectionWithin y (record { has = first_of xs; queue = rest_of xs; change = c })
-  passed c [] all = (λ x r. absurd (not_both has.Free x r refl), all)
+  passed c [] all = (λ x r. cc, all)
   passed c (f ∷ xs) all =
-      (λ x r. rw (same_engine (has.Engine f) f x refl r) at (all f (or_left (eqb f f) (is_in f xs) (eq-eqb f f refl))), λ x r. all x (or_right (eqb f x) (is_in x xs) r))
+      (λ x r. rw (same_engine (Some f) f x refl r) at (all f (or_left (eqb f f) (is_in f xs) (eq-eqb f f refl))), λ x r. all x (or_right (eqb f x) (is_in x xs) r))
 
   free_within : (by : Holder) (s : Section) (e : ℕ) → SectionWithin y s → OutcomeWithin (free_by by s e)
-  free_within has.Free s e w = tt
-  free_within (has.Engine f) s e w =
+  free_within None s e w = tt
+  free_within (Some f) s e w =
       cond_both (eqb f e) _ _ OutcomeWithin (λ _. cond_both (changeable s) _ _ OutcomeWithin (λ _. passed (s.change + 1) s.queue w.1) (λ _. tt)) (λ _. tt)
 
   give_up_within : (s : Section) (e : ℕ) → SectionWithin y s → OutcomeWithin (give_up_section s e)
@@ -80,9 +78,9 @@ module _ (y : Yard) where
   do_within act.GiveUp t e p h all =
       settle_within t p (give_up_outcome t e p) all (cond_both (known e p) _ _ OutcomeWithin (λ _. give_up_within (place_at t p) e (all p)) (λ _. tt))
 
-  holder_in : (h : Holder) → ((e : ℕ) → h ≡ has.Engine e → e < y.engines) → HolderIn y (holder_of h)
-  holder_in has.Free all = tt
-  holder_in (has.Engine e) all = all e refl
+  holder_in : (h : Holder) → ((e : ℕ) → h ≡ Some e → e < y.engines) → HolderIn y (holder_of h)
+  holder_in None all = tt
+  holder_in (Some e) all = all e refl
 
   -- a kept answer is in the yard, and so is one given anew
   used_in : (last : LastCall) (n : ℕ) (v : Verdict) → AnswerIn y last.answer → VerdictIn y v → AnswerIn y (used_of last n v).answer
@@ -97,8 +95,8 @@ module _ (y : Yard) where
   verdict_in : (t : Table) (p : ℕ) (r : Result Done Refusal) → TableWithin t → VerdictIn y (verdict_of (answer_of t p r) r)
   verdict_in t p (Ok did.Had) all = (tt, holder_in (place_at t p).has (all p).0)
   verdict_in t p (Ok (did.Waits x)) all = (tt, holder_in (place_at t p).has (all p).0)
-  verdict_in t p (Ok (did.LetGo has.Free)) all = (tt, holder_in (place_at t p).has (all p).0)
-  verdict_in t p (Ok (did.LetGo (has.Engine x))) all = (tt, holder_in (place_at t p).has (all p).0)
+  verdict_in t p (Ok (did.LetGo None)) all = (tt, holder_in (place_at t p).has (all p).0)
+  verdict_in t p (Ok (did.LetGo (Some x))) all = (tt, holder_in (place_at t p).has (all p).0)
   verdict_in t p (Ok did.Left) all = (tt, holder_in (place_at t p).has (all p).0)
   verdict_in t p (Err refused.OutOfRange) all = tt
   verdict_in t p (Err refused.Waiting) all = (tt, holder_in (place_at t p).has (all p).0)
@@ -134,7 +132,7 @@ everywhere : {X : Type 0} (x : X) (i : ℕ) → get_or (replicate 64 x) i x ≡ 
 everywhere x i = elim (cases_lt i 64) [ inl h ↦ get_or-replicate 64 i x x h | inr h ↦ get_or_past (replicate 64 x) i x (rw (length-replicate 64 x) h) ]
 
 fresh_within : (y : Yard) → Within y fresh
-fresh_within y = (λ p. rw (everywhere idle p) (λ e q. absurd (not_both has.Free e q refl), λ e w. absurd (both_ways false refl w)), λ e. rw (everywhere never e) (tt, tt))
+fresh_within y = (λ p. rw (everywhere idle p) (λ e q. cc, λ e w. cc), λ e. rw (everywhere never e) (tt, tt))
 
 pub stays_in_yard : StaysInYard
 stays_in_yard y [] h = fresh_within y

@@ -1,11 +1,10 @@
 -- Over lists of calls: by induction on what one call keeps to.
 use Rattle.std.proofs.Common.{◌≡◌, ℕ, ◌+◌, ◌<◌, Bool, true, false, cond, List, [], ◌∷◌, ◌++◌, length, Ok, Err, sym, refl, ap, ◌∙◌, inl, inr, arith, length-set}
-use Rattle.std.proofs.lemmas.Bool.{both_ways}
 use Rattle.messages.specs.declared.message.Act.{Act}
 use Rattle.messages.specs.declared.message.Act.TheVariants as act
 use Rattle.messages.specs.declared.message.Call.{Call}
 use Rattle.sections.specs.Table.{Outcome, Table, free_outcome, give_up_outcome, settle, take_outcome}
-use Rattle.keeper.specs.declared.Answer.{Answer}
+use Rattle.messages.specs.declared.message.Answer.{Answer}
 use Rattle.keeper.specs.declared.LastCall.{LastCall}
 use Rattle.keeper.specs.declared.Verdict.{Verdict}
 use Rattle.keeper.specs.declared.Verdict.TheVariants as verdict
@@ -76,15 +75,15 @@ unrecorded k c s verdict.Malformed f h = f
 unrecorded k c s verdict.PassedOver f h = f.0
 unrecorded k c s (verdict.Again a) f h = f.0
 unrecorded k c s (verdict.AtLimit a) f h = f.0
-unrecorded k c s (verdict.Refused r a) f h = absurd (both_ways true h refl)
-unrecorded k c s (verdict.Done a) f h = absurd (both_ways true h refl)
-unrecorded k c s (verdict.PassedOn a) f h = absurd (both_ways true h refl)
+unrecorded k c s (verdict.Refused r a) f h = cc
+unrecorded k c s (verdict.Done a) f h = cc
+unrecorded k c s (verdict.PassedOn a) f h = cc
 
 recorded : (k : State) (c : Call) (s : State) (v : Verdict) → Followed k c s v → is_recorded v ≡ true → IsNext k c
-recorded k c s verdict.Malformed f h = absurd (both_ways false refl h)
-recorded k c s verdict.PassedOver f h = absurd (both_ways false refl h)
-recorded k c s (verdict.Again a) f h = absurd (both_ways false refl h)
-recorded k c s (verdict.AtLimit a) f h = absurd (both_ways false refl h)
+recorded k c s verdict.Malformed f h = cc
+recorded k c s verdict.PassedOver f h = cc
+recorded k c s (verdict.Again a) f h = cc
+recorded k c s (verdict.AtLimit a) f h = cc
 recorded k c s (verdict.Refused r a) f h = f.1
 recorded k c s (verdict.Done a) f h = f.0
 recorded k c s (verdict.PassedOn a) f h = f.0.0

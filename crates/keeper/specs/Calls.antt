@@ -1,19 +1,19 @@
 -- What a keeper makes of a call: the machine that the code is held to. Assumes nothing.
-use Rattle.std.specs.Prelude.{ℕ, ◌+◌, cond, Result, ◌==◌, slice_set}
+use Rattle.std.specs.Prelude.{ℕ, ◌+◌, cond, Option, None, Some, Result, ◌==◌, slice_set}
 use Rattle.messages.specs.declared.message.Act.{Act}
 use Rattle.messages.specs.declared.message.Act.TheVariants as act
 use Rattle.messages.specs.declared.message.Call.{Call}
 use Rattle.sections.specs.declared.Done.{Done}
 use Rattle.sections.specs.declared.Refusal.{Refusal}
 use Rattle.sections.specs.Table.{Table, change_number_at, free_of, give_up_of, holder_at, known, take_of}
-use Rattle.keeper.specs.declared.Answer.{Answer}
+use Rattle.messages.specs.declared.message.Answer.{Answer}
 use Rattle.keeper.specs.declared.LastCall.{LastCall}
 use Rattle.keeper.specs.declared.Verdict.{Verdict}
 use Rattle.keeper.specs.declared.Verdict.TheVariants as verdict
 use Rattle.keeper.specs.declared.calls.Turn.{Turn}
 use Rattle.keeper.specs.declared.calls.Turn.TheVariants as turn
 use Rattle.keeper.specs.Model.{State, last_of}
-use Rattle.keeper.specs.Words.{holder_of, reply_of, verdict_of}
+use Rattle.keeper.specs.Words.{holder_of, recorded_of, reply_of, verdict_of}
 
 -- the sections' own step for each kind of call
 abbrev pub do_by : Act → Table → ℕ → ℕ → Table × Result Done Refusal
@@ -29,15 +29,13 @@ ask_of t c = do_by c.act t c.engine.0 c.section.place
 abbrev pub answer_of : Table → ℕ → Result Done Refusal → Answer
 answer_of t p result = record { reply = reply_of result; holder = holder_of (holder_at t p); change = change_number_at t p }
 
--- an engine's last call, after one of this number
+-- an engine's last call, after one of this number, with the answer if that used it up
+abbrev pub after_number : LastCall → ℕ → Option Answer → LastCall
+after_number last n None = last
+after_number last n (Some a) = record { number = n; answer = a }
+
 abbrev pub used_of : LastCall → ℕ → Verdict → LastCall
-used_of last n verdict.Malformed = last
-used_of last n verdict.PassedOver = last
-used_of last n (verdict.Again a) = last
-used_of last n (verdict.AtLimit a) = last
-used_of last n (verdict.Refused r a) = record { number = n; answer = a }
-used_of last n (verdict.Done a) = record { number = n; answer = a }
-used_of last n (verdict.PassedOn a) = record { number = n; answer = a }
+used_of last n v = after_number last n (recorded_of v)
 
 -- the keeper with sections and a verdict on a call of an engine
 abbrev pub kept_of : State → Call → Table → Verdict → State × Verdict

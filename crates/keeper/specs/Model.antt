@@ -1,6 +1,5 @@
 -- What a keeper stands for: its sections, and by engine the last call. Assumes nothing.
-use Rattle.std.specs.Prelude.{ℕ, List, replicate, slice_index_or}
-use Rattle.messages.specs.declared.message.Holder.TheVariants as holder
+use Rattle.std.specs.Prelude.{ℕ, List, replicate, slice_index_or, None}
 use Rattle.messages.specs.declared.message.Reply.TheVariants as reply
 use Rattle.sections.specs.Table.{Table, empty}
 use Rattle.sections.specs.Model.{table_of}
@@ -18,7 +17,7 @@ model_of k = record { table = table_of k.sections; calls = k.calls }
 
 -- what stands for an engine that never called
 abbrev pub never : LastCall
-never = record { number = 0; answer = record { reply = reply.Done; holder = holder.Nobody; change = 0 } }
+never = record { number = 0; answer = record { reply = reply.Done; holder = None; change = 0 } }
 
 -- a keeper that nobody called
 abbrev pub fresh : State

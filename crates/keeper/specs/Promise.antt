@@ -1,12 +1,11 @@
 -- What is promised of every call, in plain words over the keeper before and after it. Assumes nothing.
-use Rattle.std.specs.Prelude.{◌≡◌, ℕ, ◌+◌, ◌⊎◌, Ok, ◌≢◌}
+use Rattle.std.specs.Prelude.{◌≡◌, ℕ, ◌+◌, ◌⊎◌, Ok, ◌≢◌, Some}
 use Rattle.messages.specs.declared.message.Call.{Call}
-use Rattle.messages.specs.declared.message.Holder.TheVariants as holder
 use Rattle.messages.specs.declared.message.Refusal.TheVariants as refusal
 use Rattle.messages.specs.declared.message.Reply.TheVariants as reply
 use Rattle.sections.specs.declared.Done.{Done}
 use Rattle.sections.specs.Table.{change_number_at, holder_at, place_at}
-use Rattle.keeper.specs.declared.Answer.{Answer}
+use Rattle.messages.specs.declared.message.Answer.{Answer}
 use Rattle.keeper.specs.declared.Verdict.{Verdict}
 use Rattle.keeper.specs.declared.Verdict.TheVariants as verdict
 use Rattle.keeper.specs.Model.{State, last_of}
@@ -41,7 +40,7 @@ Followed before c after (verdict.Again a) = (after ≡ before) × UsedUp before 
 Followed before c after (verdict.AtLimit a) = (after ≡ before) × IsNext before c × (a.reply ≡ reply.Refused refusal.Exhausted) × Names after c a
 Followed before c after (verdict.Refused r a) = (after.table ≡ before.table) × IsNext before c × (a.reply ≡ reply.Refused r) × UsedUp after c a × Names after c a
 Followed before c after (verdict.Done a) = WasDone before c after a
-Followed before c after (verdict.PassedOn a) = WasDone before c after a × ((next : ℕ) × (a.holder ≡ holder.Engine (record { 0 = next })))
+Followed before c after (verdict.PassedOn a) = WasDone before c after a × ((next : ℕ) × (a.holder ≡ Some (record { 0 = next })))
 
 -- the verdict on the same call at once again
 abbrev pub once_more : Verdict → Verdict

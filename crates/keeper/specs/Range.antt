@@ -1,11 +1,10 @@
 -- That a keeper names no engine beyond those that call it, so that all it answers can be written. Assumes nothing.
-use Rattle.std.specs.Prelude.{◌≡◌, ℕ, ◌<◌, true, List, [], ◌∷◌}
+use Rattle.std.specs.Prelude.{◌≡◌, ℕ, ◌<◌, true, List, [], ◌∷◌, Some}
 use Rattle.messages.specs.declared.yard.Yard.{Yard}
 use Rattle.messages.specs.declared.message.Call.{Call}
 use Rattle.messages.specs.Range.{EngineIn, HolderIn, ReplyIn}
-use Rattle.sections.specs.declared.Holder.TheVariants.{Engine}
 use Rattle.sections.specs.Table.{Section, is_in, place_at}
-use Rattle.keeper.specs.declared.Answer.{Answer}
+use Rattle.messages.specs.declared.message.Answer.{Answer}
 use Rattle.keeper.specs.declared.Verdict.{Verdict}
 use Rattle.keeper.specs.declared.Verdict.TheVariants as verdict
 use Rattle.keeper.specs.Model.{State, last_of}
@@ -13,7 +12,7 @@ use Rattle.keeper.specs.Runs.{after}
 
 -- whoever has the section or waits for it is an engine of the yard
 abbrev pub SectionWithin : Yard → Section → Type 0
-SectionWithin y s = ((e : ℕ) → s.has ≡ Engine e → e < y.engines) × ((e : ℕ) → is_in e s.queue ≡ true → e < y.engines)
+SectionWithin y s = ((e : ℕ) → s.has ≡ Some e → e < y.engines) × ((e : ℕ) → is_in e s.queue ≡ true → e < y.engines)
 
 -- an answer that a message can carry in the yard
 abbrev pub AnswerIn : Yard → Answer → Type 0

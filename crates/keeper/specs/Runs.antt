@@ -2,7 +2,7 @@
 use Rattle.std.specs.Prelude.{◌≡◌, ℕ, ◌+◌, ◌<◌, ◌≤◌, Bool, true, false, cond, List, [], ◌∷◌, ◌++◌, ◌≢◌}
 use Rattle.messages.specs.declared.message.Call.{Call}
 use Rattle.sections.specs.Table.{known}
-use Rattle.keeper.specs.declared.Answer.{Answer}
+use Rattle.messages.specs.declared.message.Answer.{Answer}
 use Rattle.keeper.specs.declared.Verdict.{Verdict}
 use Rattle.keeper.specs.declared.Verdict.TheVariants as verdict
 use Rattle.keeper.specs.Model.{State, fresh, last_of}

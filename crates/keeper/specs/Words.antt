@@ -1,8 +1,7 @@
 -- What the sections answer, in the words of messages. Assumes nothing.
 use Rattle.std.specs.Prelude.{◌≡◌, ℕ, cond, List, length, Some, None, Ok, Err, Option, Result, nat_lt, slice_index}
 use Rattle.messages.specs.declared.yard.Engine.{Engine}
-use Rattle.messages.specs.declared.message.Holder.{Holder}
-use Rattle.messages.specs.declared.message.Holder.TheVariants as holder
+use Rattle.messages.specs.Holder.{Holder}
 use Rattle.messages.specs.declared.message.Refusal.{Refusal}
 use Rattle.messages.specs.declared.message.Refusal.TheVariants as refusal
 use Rattle.messages.specs.declared.message.Reply.{Reply}
@@ -10,19 +9,18 @@ use Rattle.messages.specs.declared.message.Reply.TheVariants as reply
 use Rattle.messages.specs.Table.{holder_byte, refusal_number, reply_byte}
 use Rattle.sections.specs.declared.Done.{Done}
 use Rattle.sections.specs.declared.Done.TheVariants as did
-use Rattle.sections.specs.declared.Holder.{Holder as SectionHolder}
-use Rattle.sections.specs.declared.Holder.TheVariants as has
+use Rattle.sections.specs.Table.{Holder as SectionHolder}
 use Rattle.sections.specs.declared.Refusal.{Refusal as SectionRefusal}
 use Rattle.sections.specs.declared.Refusal.TheVariants as refused
 use Rattle.sections.specs.Bytes.{answer_byte, number_of, who_byte}
-use Rattle.keeper.specs.declared.Answer.{Answer}
+use Rattle.messages.specs.declared.message.Answer.{Answer}
 use Rattle.keeper.specs.declared.Verdict.{Verdict}
 use Rattle.keeper.specs.declared.Verdict.TheVariants as verdict
 
 -- who has a section
 abbrev pub holder_of : SectionHolder → Holder
-holder_of has.Free = holder.Nobody
-holder_of (has.Engine e) = holder.Engine (record { 0 = e })
+holder_of None = None
+holder_of (Some e) = Some (record { 0 = e })
 
 -- why a call is refused
 abbrev pub refusal_of : SectionRefusal → Refusal
@@ -49,8 +47,8 @@ waiter_of queue i = cond (nat_lt i (length queue)) (Some (record { 0 = slice_ind
 
 -- a section that was let go went on to an engine, or to nobody
 abbrev pub let_go : Answer → SectionHolder → Verdict
-let_go a has.Free = verdict.Done a
-let_go a (has.Engine _) = verdict.PassedOn a
+let_go a None = verdict.Done a
+let_go a (Some _) = verdict.PassedOn a
 
 -- the verdict on a call that was done
 abbrev pub done_of : Answer → Done → Verdict
@@ -66,6 +64,16 @@ verdict_of a (Err refused.OutOfRange) = verdict.Malformed
 verdict_of a (Err refused.Waiting) = verdict.Refused refusal.Waiting a
 verdict_of a (Err refused.Mismatch) = verdict.Refused refusal.Mismatch a
 verdict_of a (Err refused.AtLimit) = verdict.AtLimit a
+
+-- the answer of a call that used up its number
+abbrev pub recorded_of : Verdict → Option Answer
+recorded_of verdict.Malformed = None
+recorded_of verdict.PassedOver = None
+recorded_of (verdict.Again a) = None
+recorded_of (verdict.AtLimit a) = None
+recorded_of (verdict.Refused r a) = Some a
+recorded_of (verdict.Done a) = Some a
+recorded_of (verdict.PassedOn a) = Some a
 
 -- the numbers of refusals, answers and holders are the same in both words
 abbrev pub SameNumbers : Type 0

@@ -1,11 +1,11 @@
 // A call whose number is the next, put to the sections.
 ghost use Rattle.std.specs.Prelude.{◌≡◌, ◌<◌};
 ghost use Rattle.keeper.specs.Model.{State, model_of};
-ghost use Rattle.keeper.specs.Calls.{ask_of, answer_of, tried_of, used_of};
+ghost use Rattle.keeper.specs.Calls.{ask_of, answer_of, tried_of};
 ghost use Rattle.sections.specs.Model.{table_of};
 
 use crate::{Answer, Keeper, LastCall, Verdict, words};
-use messages::{Act, Call};
+use messages::{Act, Call, Engine};
 use sections::{Done, Refusal, Sections};
 
 // The sections do what is called for.
@@ -27,20 +27,8 @@ fn answer_at(sections: &Sections, place: u8, res: Result<Done, Refusal>) -> Answ
 {
     Answer {
         reply: words::reply(res),
-        holder: words::holder(sections.holder(place)),
+        holder: sections.holder(place).map(Engine),
         change: sections.change(place),
-    }
-}
-
-// The last call afterwards, by what came of a call.
-fn used(last: LastCall, number: u32, verdict: Verdict) -> LastCall
-    ensures { result ≡ used_of last number verdict }
-{
-    match verdict {
-        Verdict::Done(answer) => LastCall { number, answer },
-        Verdict::PassedOn(answer) => LastCall { number, answer },
-        Verdict::Refused(_, answer) => LastCall { number, answer },
-        _ => last,
     }
 }
 
@@ -50,12 +38,15 @@ impl Keeper {
         requires { call.engine.0 < 64 }
         ensures { (model_of self.new, result) ≡ tried_of (model_of self.old) call }
     {
-        let engine = call.engine.0 as usize;
-        let last = self.calls[engine];
         let result = ask(&mut self.sections, call);
         let answer = answer_at(&self.sections, call.section.place, result);
-        let verdict = words::verdict(answer, result);
-        self.calls[engine] = used(last, call.number, verdict);
+        let verdict = Verdict::of(answer, result);
+        if let Some(answer) = verdict.recorded() {
+            self.calls[call.engine.0 as usize] = LastCall {
+                number: call.number,
+                answer,
+            };
+        }
         verdict
     }
 }

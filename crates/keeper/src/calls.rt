@@ -23,7 +23,7 @@ fn turn_of(last: u32, number: u32) -> Turn
         Turn::Other
     } else if number == last {
         Turn::Last
-    } else if number - 1 == last {
+    } else if last.checked_add(1) == Some(number) {
         Turn::Next
     } else {
         Turn::Other
@@ -62,7 +62,7 @@ impl Keeper {
         requires { call.engine.0 < 64 }
         ensures { (model_of self.new, result) ≡ numbered_of (turn_of (last_of (model_of self.old) call.engine.0).number call.number) (model_of self.old) call }
     {
-        let last = self.calls[call.engine.0 as usize];
+        let last = self.last_call(call.engine);
         match turn_of(last.number, call.number) {
             Turn::Last => Verdict::Again(last.answer),
             Turn::Next => self.tried(call),
@@ -81,10 +81,6 @@ impl Keeper {
     pub fn is_next(&self, engine: Engine, number: u32) -> bool
         ensures { result ≡ (nat_lt engine.0 64 && number == (last_of (model_of self.now) engine.0).number + 1) }
     {
-        if engine.0 >= ENGINES {
-            return false;
-        }
-        let last = self.calls[engine.0 as usize];
-        number > last.number && number - last.number == 1
+        engine.0 < ENGINES && self.last_call(engine).number.checked_add(1) == Some(number)
     }
 }

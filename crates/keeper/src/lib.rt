@@ -10,26 +10,22 @@ pub mod promises;
 mod queries;
 mod words;
 
-use messages::{Holder, Refusal, Reply};
+use messages::{Refusal, Reply};
 use sections::Sections;
 
-// What a call is answered: holder and change number are those of its section after the call.
-#[derive(Clone, Copy)]
-pub struct Answer {
-    pub reply: Reply,
-    pub holder: Holder,
-    pub change: u32,
-}
+// Holder and change number are those of the call's section after the call.
+pub use messages::Answer;
 
-// The last call of an engine that used up its number; 0: none yet.
-#[derive(Clone, Copy)]
+// The last call of an engine that used up its number.
+// Not an Option: numbers begin at 1, so 0 is the last number of one that never called, and the next is always one more.
+#[derive(Clone, Copy, PartialEq, Eq)]
 pub struct LastCall {
     pub number: u32,
     pub answer: Answer,
 }
 
 // What came of a call.
-#[derive(Clone, Copy)]
+#[derive(Clone, Copy, PartialEq, Eq)]
 pub enum Verdict {
     // No such engine or section.
     Malformed,
@@ -51,7 +47,7 @@ pub const NEVER: LastCall = LastCall {
     number: 0,
     answer: Answer {
         reply: Reply::Done,
-        holder: Holder::Nobody,
+        holder: None,
         change: 0,
     },
 };

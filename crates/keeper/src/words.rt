@@ -1,17 +1,20 @@
 // Messages' words for what the sections answer.
+// Functions: both types are of other crates, and an impl of From stands beside one of its types.
 ghost use Rattle.std.specs.Prelude.{◌≡◌};
-ghost use Rattle.keeper.specs.Words.{holder_of, reply_of, verdict_of};
+ghost use Rattle.keeper.specs.Words.{recorded_of, refusal_of, reply_of, verdict_of};
 
 use crate::{Answer, Verdict};
-use messages::{Engine, Holder, Refusal, Reply};
+use messages::{Refusal, Reply};
 use sections::Done;
 
-pub(crate) fn holder(from: sections::Holder) -> Holder
-    ensures { result ≡ holder_of from }
+fn refusal(from: sections::Refusal) -> Refusal
+    ensures { result ≡ refusal_of from }
 {
     match from {
-        sections::Holder::Free => Holder::Nobody,
-        sections::Holder::Engine(number) => Holder::Engine(Engine(number)),
+        sections::Refusal::OutOfRange => Refusal::Malformed,
+        sections::Refusal::Waiting => Refusal::Waiting,
+        sections::Refusal::Mismatch => Refusal::Mismatch,
+        sections::Refusal::AtLimit => Refusal::Exhausted,
     }
 }
 
@@ -20,23 +23,37 @@ pub(crate) fn reply(res: Result<Done, sections::Refusal>) -> Reply
 {
     match res {
         Ok(Done::Waits(_)) => Reply::Waits,
-        Ok(_) => Reply::Done,
-        Err(sections::Refusal::OutOfRange) => Reply::Refused(Refusal::Malformed),
-        Err(sections::Refusal::Waiting) => Reply::Refused(Refusal::Waiting),
-        Err(sections::Refusal::Mismatch) => Reply::Refused(Refusal::Mismatch),
-        Err(sections::Refusal::AtLimit) => Reply::Refused(Refusal::Exhausted),
+        Ok(Done::Had | Done::LetGo(_) | Done::Left) => Reply::Done,
+        Err(why) => Reply::Refused(refusal(why)),
     }
 }
 
-pub(crate) fn verdict(answer: Answer, res: Result<Done, sections::Refusal>) -> Verdict
-    ensures { result ≡ verdict_of answer res }
-{
-    match res {
-        Ok(Done::LetGo(sections::Holder::Engine(_))) => Verdict::PassedOn(answer),
-        Ok(_) => Verdict::Done(answer),
-        Err(sections::Refusal::OutOfRange) => Verdict::Malformed,
-        Err(sections::Refusal::Waiting) => Verdict::Refused(Refusal::Waiting, answer),
-        Err(sections::Refusal::Mismatch) => Verdict::Refused(Refusal::Mismatch, answer),
-        Err(sections::Refusal::AtLimit) => Verdict::AtLimit(answer),
+impl Verdict {
+    // What came of a call that was put to the sections.
+    pub(crate) fn of(answer: Answer, res: Result<Done, sections::Refusal>) -> Verdict
+        ensures { result ≡ verdict_of answer res }
+    {
+        match res {
+            Ok(Done::LetGo(Some(_))) => Verdict::PassedOn(answer),
+            Ok(Done::LetGo(None) | Done::Had | Done::Waits(_) | Done::Left) => Verdict::Done(
+                answer,
+            ),
+            Err(sections::Refusal::OutOfRange) => Verdict::Malformed,
+            Err(sections::Refusal::AtLimit) => Verdict::AtLimit(answer),
+            Err(why) => Verdict::Refused(refusal(why), answer),
+        }
+    }
+
+    // The answer, if the call used up its number: such a call is recorded.
+    pub fn recorded(self) -> Option<Answer>
+        ensures { result ≡ recorded_of self }
+    {
+        match self {
+            Verdict::Refused(_, answer) | Verdict::Done(answer) | Verdict::PassedOn(answer) => {
+                Some(answer)
+            }
+            Verdict::Malformed | Verdict::PassedOver | Verdict::Again(_) | Verdict::AtLimit(_) =>
+                None,
+        }
     }
 }

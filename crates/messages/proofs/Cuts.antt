@@ -6,14 +6,13 @@ use Rattle.messages.specs.declared.yard.Section.{Section}
 use Rattle.messages.specs.declared.message.Act.{Act}
 use Rattle.messages.specs.declared.message.Act.TheVariants as act
 use Rattle.messages.specs.declared.message.Call.{Call}
-use Rattle.messages.specs.declared.message.Holder.{Holder}
-use Rattle.messages.specs.declared.message.Holder.TheVariants as holder
 use Rattle.messages.specs.declared.message.Refusal.{Refusal}
 use Rattle.messages.specs.declared.message.Refusal.TheVariants as refusal
 use Rattle.messages.specs.declared.message.Reply.{Reply}
 use Rattle.messages.specs.declared.message.Reply.TheVariants as reply
 use Rattle.messages.specs.declared.message.Message.{Message}
 use Rattle.messages.specs.declared.message.Message.TheVariants as message
+use Rattle.messages.specs.Holder.{Holder}
 use Rattle.messages.specs.Promises.{Bytes, CutRefused}
 use Rattle.messages.specs.Range.{CallIn, EngineIn, HolderIn, MessageIn, SectionIn}
 use Rattle.messages.specs.Reading.{message_of}
@@ -50,8 +49,8 @@ pub section_all : (y : Yard) (s : Section) (xs : List ℕ) → SectionIn y s →
 section_all y s xs h t = (omega arith, (omega arith, t))
 
 holder_byte_lem : (y : Yard) (h : Holder) → HolderIn y h → holder_byte h < 256
-holder_byte_lem y holder.Nobody h = lit< tt
-holder_byte_lem y (holder.Engine e) h = engine_byte y e h
+holder_byte_lem y None h = lit< tt
+holder_byte_lem y (Some e) h = engine_byte y e h
 
 act_byte_lem : (a : Act) → act_byte a < 256
 act_byte_lem act.Take = lit< tt
@@ -81,12 +80,21 @@ call_all y c h = (act_byte_lem c.act, (engine_byte y c.engine h.0, section_all y
 
 pub message_all : (y : Yard) (m : Message) → MessageIn y m → AllBytes (bytes_of m)
 message_all y (message.Call c) i = call_all y c i
-message_all y (message.Answer e n r h c) i =
-    (lit< tt, (engine_byte y e i.0, four_all n (reply_byte r ∷ holder_byte h ∷ four c ++ reply_end r) (reply_byte_lem r, (holder_byte_lem y h i.3, four_all c (reply_end r) (reply_all r)))))
-message_all y (message.Change s h c) i = (lit< tt, section_all y s (holder_byte h ∷ four c) i.0 (holder_byte_lem y h i.1, four_all c [] tt))
+message_all y (message.Answer e n a) i = (
+  lit< tt,
+  (
+    engine_byte y e i.0,
+    four_all n (reply_byte a.reply ∷ holder_byte a.holder ∷ four a.change ++ reply_end a.reply)
+        (reply_byte_lem a.reply, (holder_byte_lem y a.holder i.3, four_all a.change (reply_end a.reply) (reply_all a.reply))),
+  ),
+)
+message_all y (message.Change c) i =
+    (lit< tt, section_all y c.section (holder_byte c.holder ∷ four c.change) i.0 (holder_byte_lem y c.holder i.1, four_all c.change [] tt))
 message_all y (message.WhichChange e s) i = (lit< tt, (engine_byte y e i.0, section_all y s [] i.1 tt))
-message_all y (message.Sign t n b s) i = (lit< tt, (engine_byte y t i.0, four_all n (b.0 ∷ eight s) (engine_byte y b i.2, eight_all s [] tt)))
-message_all y (message.Waits e s n c) i = (lit< tt, (engine_byte y e i.0, section_all y s (four n ++ four c) i.1 (four_all n (four c) (four_all c [] tt))))
+message_all y (message.Sign s) i =
+    (lit< tt, (engine_byte y s.to i.0, four_all s.count (s.by.0 ∷ eight s.sign) (engine_byte y s.by i.2, eight_all s.sign [] tt)))
+message_all y (message.Waits w) i =
+    (lit< tt, (engine_byte y w.engine i.0, section_all y w.section (four w.count ++ four w.change) i.1 (four_all w.count (four w.change) (four_all w.change [] tt))))
 
 refused_by : (y : Yard) (m : Message) (front rest : List ℕ) → Bytes front → front ++ rest ≡ bytes_of m → (rest ≡ [] → ⊥)
     → (o : Option Message) → message_of y front ≡ o → o ≡ None

@@ -8,13 +8,12 @@ use Rattle.messages.specs.declared.yard.Section.{Section}
 use Rattle.messages.specs.declared.message.Act.{Act}
 use Rattle.messages.specs.declared.message.Act.TheVariants as act
 use Rattle.messages.specs.declared.message.Call.{Call}
-use Rattle.messages.specs.declared.message.Holder.{Holder}
-use Rattle.messages.specs.declared.message.Holder.TheVariants as holder
 use Rattle.messages.specs.declared.message.Refusal.{Refusal}
 use Rattle.messages.specs.declared.message.Refusal.TheVariants as refusal
 use Rattle.messages.specs.declared.message.Reply.{Reply}
 use Rattle.messages.specs.declared.message.Reply.TheVariants as reply
 use Rattle.messages.specs.declared.message.Message.{Message}
+use Rattle.messages.specs.Holder.{Holder}
 use Rattle.messages.specs.Promises.{Bytes, OneForm}
 use Rattle.messages.specs.Range.{CallIn, HolderIn, MessageIn, ReplyIn}
 use Rattle.messages.specs.Reading.{and_then, answer_of, call_of, calling, change_of, engine_of, four_at, eight_at, holder_of, kind_of, refusal_of, reply_of, section_of, sign_of, unless, waits_of, which_of}
@@ -58,11 +57,11 @@ branch false x y z p = inr (refl, p)
 pub holder_got : (y : Yard) (n : ℕ) (h : Holder) → holder_of y n ≡ Some h → HolderIn y h × (holder_byte h ≡ n)
 holder_got y n h is =
     let P : Holder → Type 0 = λ x. HolderIn y x × (holder_byte x ≡ n) in
-    elim (branch (eqb n 255) (Some holder.Nobody) (and_then (engine_of y n) (λ e. Some (holder.Engine e))) h is) [
+    elim (branch (eqb n 255) (Some None) (and_then (engine_of y n) (λ e. Some (Some e))) h is) [
       | inl q ↦ subst P (some _ h q.1) (tt, sym (eqb-true n 255 q.0))
-      | inr q ↦ let g = got (engine_of y n) (λ e. Some (holder.Engine e)) h q.1 in
+      | inr q ↦ let g = got (engine_of y n) (λ e. Some (Some e)) h q.1 in
           let e = engine_got y n g.0 g.1.0 in
-          let Q : Engine → Type 0 = λ x. P (holder.Engine x) in
+          let Q : Engine → Type 0 = λ x. P (Some x) in
           subst P (some _ h g.1.1) (subst Q (sym e.1) (e.0, refl))
     ]
 

@@ -1,9 +1,9 @@
 -- Fields written one after another are appended one after another.
 use Rattle.std.proofs.Common.{◌≡◌, ℕ, List, [], ◌∷◌, ◌++◌, ap, ◌∙◌, append_assoc}
 use Rattle.messages.specs.declared.yard.Engine.{Engine}
-use Rattle.messages.specs.declared.message.Holder.{Holder}
 use Rattle.messages.specs.declared.message.Reply.{Reply}
 use Rattle.messages.specs.declared.message.Message.TheVariants as message
+use Rattle.messages.specs.Holder.{Holder}
 use Rattle.messages.specs.Table.{bytes_of, four, holder_byte, reply_byte, reply_end}
 
 -- a byte, then what is written after it
@@ -20,6 +20,6 @@ then a xs ys p q = q ∙ (ap (λ (l : List ℕ). l ++ ys) p ∙ append_assoc a x
 
 -- an answer, by the two bytes that are computed for it
 pub answer_bytes : {xs : List ℕ} (e : Engine) (n : ℕ) (r : Reply) (h : Holder) (c a b : ℕ) → a ≡ reply_byte r → b ≡ holder_byte h
-    → xs ≡ 4 ∷ e.0 ∷ four n ++ (a ∷ b ∷ four c ++ reply_end r) → xs ≡ bytes_of (message.Answer e n r h c)
+    → xs ≡ 4 ∷ e.0 ∷ four n ++ (a ∷ b ∷ four c ++ reply_end r) → xs ≡ bytes_of (message.Answer e n (record { reply = r; holder = h; change = c }))
 answer_bytes e n r h c a b p q is =
     is ∙ (ap (λ (x : ℕ). 4 ∷ e.0 ∷ four n ++ (x ∷ b ∷ four c ++ reply_end r)) p ∙ ap (λ (x : ℕ). 4 ∷ e.0 ∷ four n ++ (reply_byte r ∷ x ∷ four c ++ reply_end r)) q)

@@ -1,3 +1,5 @@
+pub mod Holder
+pub mod Homes
 pub mod Range
 pub mod Table
 pub mod Reading

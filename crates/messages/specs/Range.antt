@@ -4,8 +4,6 @@ use Rattle.messages.specs.declared.yard.Yard.{Yard}
 use Rattle.messages.specs.declared.yard.Engine.{Engine}
 use Rattle.messages.specs.declared.yard.Section.{Section}
 use Rattle.messages.specs.declared.message.Call.{Call}
-use Rattle.messages.specs.declared.message.Holder.{Holder}
-use Rattle.messages.specs.declared.message.Holder.TheVariants as holder
 use Rattle.messages.specs.declared.message.Refusal.{Refusal}
 use Rattle.messages.specs.declared.message.Refusal.TheVariants as refusal
 use Rattle.messages.specs.declared.message.Reply.{Reply}
@@ -14,6 +12,7 @@ use Rattle.messages.specs.declared.message.Message.{Message}
 use Rattle.messages.specs.declared.message.Message.TheVariants as message
 use Rattle.messages.specs.declared.message.Record.{Record}
 use Rattle.messages.specs.declared.message.Record.TheVariants as journal
+use Rattle.messages.specs.Holder.{Holder}
 
 -- an engine of the yard
 abbrev pub EngineIn : Yard → Engine → Type 0
@@ -25,8 +24,8 @@ SectionIn y s = (s.keeper.0 < y.boxes) × (s.place < 64)
 
 -- nobody, or an engine of the yard
 abbrev pub HolderIn : Yard → Holder → Type 0
-HolderIn y holder.Nobody = Unit {0}
-HolderIn y (holder.Engine e) = EngineIn y e
+HolderIn y None = Unit {0}
+HolderIn y (Some e) = EngineIn y e
 
 -- what a keeper refuses for: the engine waits, it has the section or hasn't, or a number is used up
 abbrev pub Answerable : Refusal → Type 0
@@ -48,17 +47,17 @@ CallIn y c = EngineIn y c.engine × SectionIn y c.section × (c.number < 2 ^ 32)
 -- a message that names only what the yard has, and whose numbers fit their bytes
 abbrev pub MessageIn : Yard → Message → Type 0
 MessageIn y (message.Call c) = CallIn y c
-MessageIn y (message.Answer e n r h c) = EngineIn y e × (n < 2 ^ 32) × ReplyIn r × HolderIn y h × (c < 2 ^ 32)
-MessageIn y (message.Change s h c) = SectionIn y s × HolderIn y h × (c < 2 ^ 32)
+MessageIn y (message.Answer e n a) = EngineIn y e × (n < 2 ^ 32) × ReplyIn a.reply × HolderIn y a.holder × (a.change < 2 ^ 32)
+MessageIn y (message.Change c) = SectionIn y c.section × HolderIn y c.holder × (c.change < 2 ^ 32)
 MessageIn y (message.WhichChange e s) = EngineIn y e × SectionIn y s
-MessageIn y (message.Sign t n b s) = EngineIn y t × (n < 2 ^ 32) × EngineIn y b × (s < 2 ^ 64)
-MessageIn y (message.Waits e s n c) = EngineIn y e × SectionIn y s × (n < 2 ^ 32) × (c < 2 ^ 32)
+MessageIn y (message.Sign s) = EngineIn y s.to × (s.count < 2 ^ 32) × EngineIn y s.by × (s.sign < 2 ^ 64)
+MessageIn y (message.Waits w) = EngineIn y w.engine × SectionIn y w.section × (w.count < 2 ^ 32) × (w.change < 2 ^ 32)
 
 -- a record that names only what the yard has, and whose numbers fit their bytes
 abbrev pub RecordIn : Yard → Record → Type 0
 RecordIn y (journal.Kept c) = CallIn y c
 RecordIn y (journal.Made c) = CallIn y c
-RecordIn y (journal.Beginning e s c h n o) = EngineIn y e × SectionIn y s × (c < 2 ^ 32) × EngineIn y h × (n < 2 ^ 32) × (o < 2 ^ 64)
+RecordIn y (journal.Beginning b) = EngineIn y b.engine × SectionIn y b.section × (b.change < 2 ^ 32) × EngineIn y b.holder × (b.count < 2 ^ 32) × (b.own < 2 ^ 64)
 RecordIn y (journal.Heard e s) = EngineIn y e × (s < 2 ^ 64)
 
 -- a yard of 1 to 16 boxes and 1 to 64 engines

@@ -7,14 +7,13 @@ use Rattle.messages.specs.declared.yard.Section.{Section}
 use Rattle.messages.specs.declared.message.Act.{Act}
 use Rattle.messages.specs.declared.message.Act.TheVariants as act
 use Rattle.messages.specs.declared.message.Call.{Call}
-use Rattle.messages.specs.declared.message.Holder.{Holder}
-use Rattle.messages.specs.declared.message.Holder.TheVariants as holder
 use Rattle.messages.specs.declared.message.Refusal.{Refusal}
 use Rattle.messages.specs.declared.message.Refusal.TheVariants as refusal
 use Rattle.messages.specs.declared.message.Reply.{Reply}
 use Rattle.messages.specs.declared.message.Reply.TheVariants as reply
 use Rattle.messages.specs.declared.message.Message.{Message}
 use Rattle.messages.specs.declared.message.Message.TheVariants as message
+use Rattle.messages.specs.Holder.{Holder}
 
 abbrev pub and_then : {A B : Type 0} → Option A → (A → Option B) → Option B
 and_then None f = None
@@ -35,7 +34,7 @@ abbrev pub section_of : Yard → ℕ → ℕ → Option Section
 section_of y b p = unless (nat_lt b y.boxes && nat_lt p 64) (Some (record { keeper = record { 0 = b }; place = p }))
 
 abbrev pub holder_of : Yard → ℕ → Option Holder
-holder_of y n = cond (n == 255) (Some holder.Nobody) (and_then (engine_of y n) (λ e. Some (holder.Engine e)))
+holder_of y n = cond (n == 255) (Some None) (and_then (engine_of y n) (λ e. Some (Some e)))
 
 -- four bytes as a number, from place i on
 abbrev pub four_at : List ℕ → ℕ → ℕ
@@ -64,11 +63,11 @@ reply_of n end = cond (n == 1) (unless (length end == 0) (Some reply.Done))
 -- what follows the first byte of each other message
 abbrev pub answer_of : Yard → List ℕ → Option Message
 answer_of y xs = unless (nat_le 11 (length xs)) (and_then (engine_of y (slice_index xs 0)) (λ e. and_then (reply_of (slice_index xs 5) (drop 11 xs)) (λ r.
-    and_then (holder_of y (slice_index xs 6)) (λ h. Some (message.Answer e (four_at xs 1) r h (four_at xs 7))))))
+    and_then (holder_of y (slice_index xs 6)) (λ h. Some (message.Answer e (four_at xs 1) (record { reply = r; holder = h; change = four_at xs 7 }))))))
 
 abbrev pub change_of : Yard → List ℕ → Option Message
 change_of y xs = unless (length xs == 7) (and_then (section_of y (slice_index xs 0) (slice_index xs 1)) (λ s. and_then (holder_of y (slice_index xs 2)) (λ h.
-    Some (message.Change s h (four_at xs 3)))))
+    Some (message.Change (record { section = s; holder = h; change = four_at xs 3 })))))
 
 abbrev pub which_of : Yard → List ℕ → Option Message
 which_of y xs = unless (length xs == 3) (and_then (engine_of y (slice_index xs 0)) (λ e. and_then (section_of y (slice_index xs 1) (slice_index xs 2)) (λ s.
@@ -76,11 +75,11 @@ which_of y xs = unless (length xs == 3) (and_then (engine_of y (slice_index xs 0
 
 abbrev pub sign_of : Yard → List ℕ → Option Message
 sign_of y xs = unless (length xs == 14) (and_then (engine_of y (slice_index xs 0)) (λ t. and_then (engine_of y (slice_index xs 5)) (λ b.
-    Some (message.Sign t (four_at xs 1) b (eight_at xs 6)))))
+    Some (message.Sign (record { to = t; count = four_at xs 1; by = b; sign = eight_at xs 6 })))))
 
 abbrev pub waits_of : Yard → List ℕ → Option Message
 waits_of y xs = unless (length xs == 11) (and_then (engine_of y (slice_index xs 0)) (λ e. and_then (section_of y (slice_index xs 1) (slice_index xs 2)) (λ s.
-    Some (message.Waits e s (four_at xs 3) (four_at xs 7)))))
+    Some (message.Waits (record { engine = e; section = s; count = four_at xs 3; change = four_at xs 7 })))))
 
 -- a call as a message
 abbrev pub calling : Option Call → Option Message

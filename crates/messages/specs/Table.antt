@@ -1,11 +1,9 @@
 -- The table of bytes: what each message and each record is written as, high byte first. Assumes nothing.
-use Rattle.std.specs.Prelude.{ℕ, ◌/◌, ◌%◌, List, [], ◌∷◌, ◌++◌}
+use Rattle.std.specs.Prelude.{ℕ, ◌/◌, ◌%◌, List, [], ◌∷◌, ◌++◌, Some, None}
 use Rattle.messages.specs.declared.yard.Section.{Section}
 use Rattle.messages.specs.declared.message.Act.{Act}
 use Rattle.messages.specs.declared.message.Act.TheVariants as act
 use Rattle.messages.specs.declared.message.Call.{Call}
-use Rattle.messages.specs.declared.message.Holder.{Holder}
-use Rattle.messages.specs.declared.message.Holder.TheVariants as holder
 use Rattle.messages.specs.declared.message.Refusal.{Refusal}
 use Rattle.messages.specs.declared.message.Refusal.TheVariants as refusal
 use Rattle.messages.specs.declared.message.Reply.{Reply}
@@ -14,6 +12,7 @@ use Rattle.messages.specs.declared.message.Message.{Message}
 use Rattle.messages.specs.declared.message.Message.TheVariants as message
 use Rattle.messages.specs.declared.message.Record.{Record}
 use Rattle.messages.specs.declared.message.Record.TheVariants as journal
+use Rattle.messages.specs.Holder.{Holder}
 
 -- a number in four bytes
 abbrev pub four : ℕ → List ℕ
@@ -36,8 +35,8 @@ act_byte act.GiveUp = 3
 
 -- who has a section: 255 is nobody
 abbrev pub holder_byte : Holder → ℕ
-holder_byte holder.Nobody = 255
-holder_byte (holder.Engine e) = e.0
+holder_byte None = 255
+holder_byte (Some e) = e.0
 
 -- the number of a refusal
 abbrev pub refusal_number : Refusal → ℕ
@@ -65,15 +64,15 @@ call_bytes c = act_byte c.act ∷ c.engine.0 ∷ two c.section ++ four c.number
 -- the bytes of a message
 abbrev pub bytes_of : Message → List ℕ
 bytes_of (message.Call c) = call_bytes c
-bytes_of (message.Answer e n r h c) = 4 ∷ e.0 ∷ four n ++ (reply_byte r ∷ holder_byte h ∷ four c ++ reply_end r)
-bytes_of (message.Change s h c) = 5 ∷ two s ++ (holder_byte h ∷ four c)
+bytes_of (message.Answer e n a) = 4 ∷ e.0 ∷ four n ++ (reply_byte a.reply ∷ holder_byte a.holder ∷ four a.change ++ reply_end a.reply)
+bytes_of (message.Change c) = 5 ∷ two c.section ++ (holder_byte c.holder ∷ four c.change)
 bytes_of (message.WhichChange e s) = 6 ∷ e.0 ∷ two s
-bytes_of (message.Sign t n b s) = 7 ∷ t.0 ∷ four n ++ (b.0 ∷ eight s)
-bytes_of (message.Waits e s n c) = 12 ∷ e.0 ∷ two s ++ (four n ++ four c)
+bytes_of (message.Sign s) = 7 ∷ s.to.0 ∷ four s.count ++ (s.by.0 ∷ eight s.sign)
+bytes_of (message.Waits w) = 12 ∷ w.engine.0 ∷ two w.section ++ (four w.count ++ four w.change)
 
 -- the bytes of a record
 abbrev pub record_bytes : Record → List ℕ
 record_bytes (journal.Kept c) = call_bytes c
 record_bytes (journal.Made c) = 10 ∷ call_bytes c
-record_bytes (journal.Beginning e s c h n o) = 8 ∷ e.0 ∷ two s ++ (four c ++ (h.0 ∷ four n ++ eight o))
+record_bytes (journal.Beginning b) = 8 ∷ b.engine.0 ∷ two b.section ++ (four b.change ++ (b.holder.0 ∷ four b.count ++ eight b.own))
 record_bytes (journal.Heard e s) = 9 ∷ e.0 ∷ eight s

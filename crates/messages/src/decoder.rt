@@ -4,7 +4,7 @@ ghost use Rattle.std.specs.Option.{ok_or};
 ghost use Rattle.messages.specs.Promises.{Decoded};
 ghost use Rattle.messages.specs.Reading.{answer_of, call_of, calling, change_of, eight_at, four_at, kind_of, message_of, refusal_of, reply_of, sign_of, waits_of, which_of};
 
-use crate::message::{Act, Call, Message, Refusal, Reply};
+use crate::message::{Act, Answer, Call, Change, Message, Refusal, Reply, Sign, Waits};
 use crate::yard::Yard;
 
 // The message that `bytes` are, all of them.
@@ -68,12 +68,15 @@ fn answer(yard: Yard, rest: &[u8]) -> Option<Message>
     let holder = yard.holder(*holder)?;
     let call = four_at(rest, 1);
     let change = four_at(rest, 7);
-    Some(Message::Answer {
-        engine,
-        call,
+    let answer = Answer {
         reply,
         holder,
         change,
+    };
+    Some(Message::Answer {
+        engine,
+        call,
+        answer,
     })
 }
 
@@ -109,11 +112,11 @@ fn change(yard: Yard, rest: &[u8]) -> Option<Message>
     let section = yard.section(*keeper, *place)?;
     let holder = yard.holder(*holder)?;
     let change = four_at(rest, 3);
-    Some(Message::Change {
+    Some(Message::Change(Change {
         section,
         holder,
         change,
-    })
+    }))
 }
 
 fn which_change(yard: Yard, rest: &[u8]) -> Option<Message>
@@ -137,12 +140,12 @@ fn sign(yard: Yard, rest: &[u8]) -> Option<Message>
     let by = yard.engine(*by)?;
     let count = four_at(rest, 1);
     let sign = eight_at(rest, 6);
-    Some(Message::Sign {
+    Some(Message::Sign(Sign {
         to,
         count,
         by,
         sign,
-    })
+    }))
 }
 
 fn waits(yard: Yard, rest: &[u8]) -> Option<Message>
@@ -155,12 +158,12 @@ fn waits(yard: Yard, rest: &[u8]) -> Option<Message>
     let section = yard.section(*keeper, *place)?;
     let count = u32::from_be_bytes([*n3, *n2, *n1, *n0]);
     let change = u32::from_be_bytes([*c3, *c2, *c1, *c0]);
-    Some(Message::Waits {
+    Some(Message::Waits(Waits {
         engine,
         section,
         count,
         change,
-    })
+    }))
 }
 
 // The number in the four bytes from `at` on.

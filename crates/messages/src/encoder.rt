@@ -4,7 +4,8 @@ ghost use Rattle.messages.specs.Table.{bytes_of, holder_byte, act_byte, refusal_
 ghost use Rattle.messages.specs.Written.{encoded};
 
 use crate::encoded::Encoded;
-use crate::message::{Act, Holder, Message, Refusal, Reply};
+use crate::message::{Act, Message, Refusal, Reply};
+use crate::yard::Engine;
 
 const NOBODY: u8 = 255;
 
@@ -26,58 +27,42 @@ pub fn encode_into(message: Message, out: &mut Encoded)
         Message::Answer {
             engine,
             call,
-            reply,
-            holder,
-            change,
+            answer,
         } => {
             let start = Encoded::empty()
                 .byte(4)
                 .byte(engine.0)
                 .four(call)
-                .byte(reply.byte())
-                .byte(holder.byte())
-                .four(change);
-            *out = reply_end(start, reply);
+                .byte(answer.reply.byte())
+                .byte(holder_byte(answer.holder))
+                .four(answer.change);
+            *out = reply_end(start, answer.reply);
         }
-        Message::Change {
-            section,
-            holder,
-            change,
-        } => {
+        Message::Change(change) => {
             *out = Encoded::empty()
                 .byte(5)
-                .section(section)
-                .byte(holder.byte())
-                .four(change);
+                .section(change.section)
+                .byte(holder_byte(change.holder))
+                .four(change.change);
         }
         Message::WhichChange { engine, section } => {
             *out = Encoded::empty().byte(6).byte(engine.0).section(section);
         }
-        Message::Sign {
-            to,
-            count,
-            by,
-            sign,
-        } => {
+        Message::Sign(sign) => {
             *out = Encoded::empty()
                 .byte(7)
-                .byte(to.0)
-                .four(count)
-                .byte(by.0)
-                .eight(sign);
+                .byte(sign.to.0)
+                .four(sign.count)
+                .byte(sign.by.0)
+                .eight(sign.sign);
         }
-        Message::Waits {
-            engine,
-            section,
-            count,
-            change,
-        } => {
+        Message::Waits(waits) => {
             *out = Encoded::empty()
                 .byte(12)
-                .byte(engine.0)
-                .section(section)
-                .four(count)
-                .four(change);
+                .byte(waits.engine.0)
+                .section(waits.section)
+                .four(waits.count)
+                .four(waits.change);
         }
     }
 }
@@ -105,14 +90,12 @@ impl Act {
     }
 }
 
-impl Holder {
-    pub(crate) fn byte(self) -> u8
-        ensures { result ≡ holder_byte self }
-    {
-        match self {
-            Holder::Nobody => NOBODY,
-            Holder::Engine(engine) => engine.0,
-        }
+fn holder_byte(holder: Option<Engine>) -> u8
+    ensures { result ≡ holder_byte holder }
+{
+    match holder {
+        Some(engine) => engine.0,
+        None => NOBODY,
     }
 }
 

@@ -12,10 +12,12 @@ mod yard;
 pub use decoder::decode;
 pub use encoded::{Encoded, LONGEST};
 pub use encoder::{encode, encode_into};
-pub use message::{Act, Call, Holder, Message, Record, Refusal, Reply};
+pub use message::{
+    Act, Answer, Beginning, Call, Change, Message, Record, Refusal, Reply, Sign, Waits,
+};
 pub use promises::{
     cut_is_short, cut_reads_back, cut_refused, none_begins_another, one_form, one_list, reads_back,
 };
 pub use records::reading::{encode_record, first_record, read_records};
 pub use records::{First, Replay, Unread};
-pub use yard::{BoxNumber, Engine, Section, Yard};
+pub use yard::{BoxNumber, Engine, MOST_BOXES, MOST_ENGINES, PLACES, Section, Yard};

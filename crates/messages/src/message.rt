@@ -10,18 +10,12 @@ pub enum Act {
 }
 
 // One call of an engine to the keeper of a section. `number` is one higher each time.
-#[derive(Clone, Copy)]
+#[derive(Clone, Copy, PartialEq, Eq)]
 pub struct Call {
     pub act: Act,
     pub engine: Engine,
     pub section: Section,
     pub number: u32,
-}
-
-#[derive(Clone, Copy)]
-pub enum Holder {
-    Nobody,
-    Engine(Engine),
 }
 
 // Why something is turned away. Each has its number (`Refusal::number`).
@@ -35,67 +29,83 @@ pub enum Refusal {
     Exhausted,
 }
 
-// What a keeper answers a call.
-#[derive(Clone, Copy)]
+// What becomes of a call.
+#[derive(Clone, Copy, PartialEq, Eq)]
 pub enum Reply {
     Done,
     Waits,
     Refused(Refusal),
 }
 
-#[derive(Clone, Copy)]
+// What a keeper answers a call: what becomes of it, who has the section, and its change number.
+#[derive(Clone, Copy, PartialEq, Eq)]
+pub struct Answer {
+    pub reply: Reply,
+    pub holder: Option<Engine>,
+    pub change: u32,
+}
+
+// Who has `section` since its change `change`.
+#[derive(Clone, Copy, PartialEq, Eq)]
+pub struct Change {
+    pub section: Section,
+    pub holder: Option<Engine>,
+    pub change: u32,
+}
+
+// The sign that `by` shows, told to `to`, which waits for it by its beginning `count`.
+#[derive(Clone, Copy, PartialEq, Eq)]
+pub struct Sign {
+    pub to: Engine,
+    pub count: u32,
+    pub by: Engine,
+    pub sign: u64,
+}
+
+// `engine` waits for `section` by its beginning `count`, of the section's change `change`.
+#[derive(Clone, Copy, PartialEq, Eq)]
+pub struct Waits {
+    pub engine: Engine,
+    pub section: Section,
+    pub count: u32,
+    pub change: u32,
+}
+
+// A beginning to wait: for whom, by which count, of which change, and the own sign it gave.
+#[derive(Clone, Copy, PartialEq, Eq)]
+pub struct Beginning {
+    pub engine: Engine,
+    pub section: Section,
+    pub change: u32,
+    pub holder: Engine,
+    pub count: u32,
+    pub own: u64,
+}
+
+#[derive(Clone, Copy, PartialEq, Eq)]
 pub enum Message {
     Call(Call),
     Answer {
         engine: Engine,
         call: u32,
-        reply: Reply,
-        holder: Holder,
-        change: u32,
+        answer: Answer,
     },
-    Change {
-        section: Section,
-        holder: Holder,
-        change: u32,
-    },
+    Change(Change),
     WhichChange {
         engine: Engine,
         section: Section,
     },
-    // The sign that `by` shows, told to `to`, which waits for it by its beginning `count`.
-    Sign {
-        to: Engine,
-        count: u32,
-        by: Engine,
-        sign: u64,
-    },
-    // `engine` waits for `section` by its beginning `count`, of the section's change `change`.
-    Waits {
-        engine: Engine,
-        section: Section,
-        count: u32,
-        change: u32,
-    },
+    Sign(Sign),
+    Waits(Waits),
 }
 
-#[derive(Clone, Copy)]
+#[derive(Clone, Copy, PartialEq, Eq)]
 pub enum Record {
     // A call that the keeper of the section did or refused.
     Kept(Call),
     // A call that the engine's home made.
     Made(Call),
-    // A beginning to wait: for whom, by which count, of which change, and the own sign it gave.
-    Beginning {
-        engine: Engine,
-        section: Section,
-        change: u32,
-        holder: Engine,
-        count: u32,
-        own: u64,
-    },
+    Beginning(Beginning),
     // A sign that `engine` heard and shows.
-    Heard {
-        engine: Engine,
-        sign: u64,
-    },
+    Heard { engine: Engine, sign: u64 },
 }

@@ -5,7 +5,8 @@ use Rattle.std.proofs.lemmas.Bool.{cases_lt, le-leb, ne_eqb}
 use Rattle.one_box.specs.declared.script.Verb.{Verb}
 use Rattle.one_box.specs.declared.script.Verb.TheVariants.{Take, Free, GiveUp}
 use Rattle.one_box.specs.declared.script.Line.TheVariants.{Called}
-use Rattle.one_box.specs.Script.{ReadsBack, digit_of, line_of, number_of, verb_text}
+use Rattle.words.specs.Words.{digit_of}
+use Rattle.one_box.specs.Script.{ReadsBack, line_of, number_of, verb_text}
 
 digit_back : (d : ℕ) → d < 10 → digit_of (48 + d) ≡ Some d
 digit_back d h =
@@ -25,7 +26,7 @@ number_back n h = elim (cases_lt n 10) [ inl k ↦ rw (decimal_digit n k) (digit
         rw (digit_back (n / 10) tens, digit_back (n % 10) ones, some, whole) refl
 
 -- each verb's line
-by_verb : (v : Verb) (e p : ℕ) → e < 10 → p < 100 → line_of (verb_text v ++ (decimal e ++ (codes " 0:" ++ decimal p))) ≡ Called (record { verb = v; engine = e; place = p })
+by_verb : (v : Verb) (e p : ℕ) → e < 10 → p < 100 → line_of (verb_text v ++ (decimal e ++ (codes " 0:" ++ decimal p))) ≡ Some (Called (record { verb = v; engine = e; place = p }))
 by_verb Take e p h k = rw (decimal_digit e h, digit_back e h, number_back p k) refl
 by_verb Free e p h k = rw (decimal_digit e h, digit_back e h, number_back p k) refl
 by_verb GiveUp e p h k = rw (decimal_digit e h, digit_back e h, number_back p k) refl

@@ -1,21 +1,13 @@
 -- A script's lines: what each means, and how each is written.
-use Rattle.std.specs.Prelude.{◌≡◌, ℕ, ◌+◌, ◌-◌, ◌*◌, ◌<◌, cond, ◌&&◌, List, [], ◌∷◌, ◌++◌, Some, None, codes, decimal, Option, ◌==◌, nat_le}
+use Rattle.std.specs.Prelude.{◌≡◌, ℕ, ◌+◌, ◌*◌, ◌<◌, cond, ◌&&◌, List, [], ◌∷◌, ◌++◌, Some, None, codes, decimal, Option, ◌==◌, nat_le}
+use Rattle.std.specs.Option.{option_map}
 use Rattle.std.specs.Str.{bytes_eq}
+use Rattle.words.specs.Words.{after_of, digit_of}
 use Rattle.one_box.specs.declared.script.Verb.{Verb}
 use Rattle.one_box.specs.declared.script.Verb.TheVariants.{Take, Free, GiveUp}
 use Rattle.one_box.specs.declared.script.Call.{Call}
 use Rattle.one_box.specs.declared.script.Line.{Line}
-use Rattle.one_box.specs.declared.script.Line.TheVariants.{Passed, Called, Show, Bad}
-
--- what stands behind a word that a text begins with
-abbrev pub after_of : List ℕ → List ℕ → Option (List ℕ)
-after_of [] text = Some text
-after_of (w ∷ ws) [] = None
-after_of (w ∷ ws) (x ∷ xs) = cond (x == w) (after_of ws xs) None
-
--- a decimal digit's value
-abbrev pub digit_of : ℕ → Option ℕ
-digit_of byte = cond (nat_le 48 byte && nat_le byte 57) (Some (byte - 48)) None
+use Rattle.one_box.specs.declared.script.Line.TheVariants.{Passed, Called, Show}
 
 abbrev pub two_digits : Option ℕ → Option ℕ → Option ℕ
 two_digits None ones = None
@@ -33,28 +25,29 @@ abbrev pub place_of : Option (List ℕ) → Option ℕ
 place_of None = None
 place_of (Some text) = number_of text
 
-abbrev pub call_by : Verb → Option ℕ → Option ℕ → Line
-call_by verb None place = Bad
-call_by verb (Some engine) None = Bad
-call_by verb (Some engine) (Some place) = Called (record { verb = verb; engine = engine; place = place })
+abbrev pub call_by : Verb → Option ℕ → Option ℕ → Option Call
+call_by verb None place = None
+call_by verb (Some engine) None = None
+call_by verb (Some engine) (Some place) = Some (record { verb = verb; engine = engine; place = place })
 
 -- an engine and a section of box 0: `E 0:P`
-abbrev pub call_of : Verb → List ℕ → Line
-call_of verb [] = Bad
+abbrev pub call_of : Verb → List ℕ → Option Call
+call_of verb [] = None
 call_of verb (e ∷ rest) = call_by verb (digit_of e) (place_of (after_of (codes " 0:") rest))
 
-abbrev pub verbed : Verb → Option (List ℕ) → Line → Line
+abbrev pub verbed : Verb → Option (List ℕ) → Option Call → Option Call
 verbed verb None otherwise = otherwise
 verbed verb (Some text) otherwise = call_of verb text
 
-abbrev pub command_of : List ℕ → Line
+-- the call that a line asks for
+abbrev pub command_of : List ℕ → Option Call
 command_of line =
-    verbed Take (after_of (codes "take ") line) (verbed Free (after_of (codes "free ") line) (verbed GiveUp (after_of (codes "give up ") line) (cond (bytes_eq line (codes "show")) Show Bad)))
+    verbed Take (after_of (codes "take ") line) (verbed Free (after_of (codes "free ") line) (verbed GiveUp (after_of (codes "give up ") line) None))
 
 -- a line of the script; an empty one, and one that begins with #, is passed over
-abbrev pub line_of : List ℕ → Line
-line_of [] = Passed
-line_of (x ∷ xs) = cond (x == 35) Passed (command_of (x ∷ xs))
+abbrev pub line_of : List ℕ → Option Line
+line_of [] = Some Passed
+line_of (x ∷ xs) = cond (x == 35) (Some Passed) (cond (bytes_eq (x ∷ xs) (codes "show")) (Some Show) (option_map Called (command_of (x ∷ xs))))
 
 abbrev pub engines_by : Option ℕ → Option ℕ
 engines_by None = None
@@ -75,4 +68,4 @@ call_text call = verb_text call.verb ++ (decimal call.engine ++ (codes " 0:" ++ 
 
 -- A call that is written is read as it was meant: an engine below 10, a place below 100.
 abbrev pub ReadsBack : Type 0
-ReadsBack = (call : Call) → call.engine < 10 → call.place < 100 → line_of (call_text call) ≡ Called call
+ReadsBack = (call : Call) → call.engine < 10 → call.place < 100 → line_of (call_text call) ≡ Some (Called call)

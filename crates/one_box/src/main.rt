@@ -4,22 +4,24 @@
 mod play;
 mod script;
 
+use play::{Answer, Section};
 use script::Line;
 use sections::{Holder, PLACES, Sections};
 use std::io;
 
+const REFUSED: &str = "refused 1";
+
 // Prints each section that somebody has, by place.
 fn show(rt: &HostRuntime, sections: &Sections) -> io::Result<()> {
-    for place in 0u8..PLACES {
+    for place in 0..PLACES {
         if let Holder::Engine(holder) = sections.holder(place) {
-            let text = play::section_text(
-                rt.alloc(),
+            let section = Section {
                 place,
                 holder,
-                sections.change(place),
-                sections.queue(place),
-            )?;
-            println!(rt; "{text}")?;
+                change: sections.change(place),
+                queue: sections.queue(place),
+            };
+            println!(rt; "{section}")?;
         }
     }
     Ok(())
@@ -28,31 +30,27 @@ fn show(rt: &HostRuntime, sections: &Sections) -> io::Result<()> {
 // Plays one line.
 fn step(rt: &HostRuntime, sections: &mut Sections, engines: u8, line: &[u8]) -> io::Result<()> {
     match script::read(line) {
-        Line::Passed => Ok(()),
-        Line::Called(call) => {
-            let answer = play::play(sections, engines, call);
-            let text = play::answer_text(rt.alloc(), call, answer)?;
-            println!(rt; "{text}")
+        Some(Line::Passed) => Ok(()),
+        Some(Line::Called(call)) => {
+            let outcome = play::play(sections, engines, call);
+            println!(rt; "{}", Answer { call, outcome })
         }
-        Line::Show => show(rt, sections),
-        Line::Bad => println!(rt; "refused 1"),
+        Some(Line::Show) => show(rt, sections),
+        None => println!(rt; "{REFUSED}"),
     }
 }
 
 fn main(rt: HostRuntime) -> io::Result<()> {
+    let mut lines = rt.lines(rt.alloc());
+    let Some(first) = lines.next() else {
+        return Ok(());
+    };
+    let Some(engines) = script::yard(first?.as_bytes()) else {
+        return println!(rt; "{REFUSED}");
+    };
     let mut sections = Sections::new();
-    let mut engines: Option<u8> = None;
-    for line in rt.lines(rt.alloc()) {
-        let line = line?;
-        match engines {
-            Some(count) => step(&rt, &mut sections, count, line.as_bytes())?,
-            None => {
-                engines = script::yard(line.as_bytes());
-                if engines.is_none() {
-                    return println!(rt; "refused 1");
-                }
-            }
-        }
+    for line in lines {
+        step(&rt, &mut sections, engines, line?.as_bytes())?;
     }
     Ok(())
 }

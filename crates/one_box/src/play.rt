@@ -1,11 +1,11 @@
 // A box's sections with the engines of one rehearsal, and the text of its answers.
-ghost use Rattle.std.specs.Prelude.{◌≡◌, IfOk, string_bytes};
+ghost use Rattle.std.specs.Prelude.{◌≡◌, Some};
 ghost use Rattle.sections.specs.Model.{table_of};
-ghost use Rattle.one_box.specs.Play.{answer_text, done_text, head_text, let_go_text, play_of, section_text};
+ghost use Rattle.one_box.specs.Play.{answer_text, play_of, section_text};
 
 use crate::script::{Call, Verb};
 use sections::{Done, Holder, Refusal, Sections};
-use std::alloc::{AllocError, Global};
+use std::fmt;
 
 // One call on the sections, by one of so many engines.
 pub fn play(sections: &mut Sections, engines: u8, call: Call) -> Result<Done, Refusal>
@@ -21,67 +21,54 @@ pub fn play(sections: &mut Sections, engines: u8, call: Call) -> Result<Done, Re
     }
 }
 
-fn let_go_text(heap: Global, call: Call, next: Holder) -> Result<String, AllocError>
-    ensures { IfOk result (λ s. string_bytes s ≡ let_go_text call next) }
-{
-    let engine = call.engine;
-    let place = call.place;
-    match next {
-        Holder::Free => format!(in heap; "let go {engine} 0:{place} to nobody"),
-        Holder::Engine(next) => format!(in heap; "let go {engine} 0:{place} to {next}"),
-    }
+// What the sections answered to a call, as one line.
+#[derive(Clone, Copy)]
+pub struct Answer {
+    pub call: Call,
+    pub outcome: Result<Done, Refusal>,
 }
 
-fn done_text(heap: Global, call: Call, done: Done) -> Result<String, AllocError>
-    ensures { IfOk result (λ s. string_bytes s ≡ done_text call done) }
-{
-    let engine = call.engine;
-    let place = call.place;
-    match done {
-        Done::Had => format!(in heap; "had {engine} 0:{place}"),
-        Done::Waits(holder) => format!(in heap; "waits {engine} 0:{place} for {holder}"),
-        Done::LetGo(next) => let_go_text(heap, call, next),
-        Done::Left => format!(in heap; "left {engine} 0:{place}"),
-    }
-}
+impl fmt::Display for Answer {
+    ghost output = { λ a. Some (answer_text a.call a.outcome) };
 
-// The line that answers a call.
-pub fn answer_text(
-    heap: Global,
-    call: Call,
-    answer: Result<Done, Refusal>,
-) -> Result<String, AllocError>
-    ensures { IfOk result (λ s. string_bytes s ≡ answer_text call answer) }
-{
-    match answer {
-        Ok(done) => done_text(heap, call, done),
-        Err(refusal) => {
-            let number = refusal.number();
-            format!(in heap; "refused {number}")
+    fn fmt<W: fmt::Write>(&self, f: &mut fmt::Formatter<W>) -> fmt::Result {
+        let engine = self.call.engine;
+        let place = self.call.place;
+        match self.outcome {
+            Ok(Done::Had) => write!(f, "had {engine} 0:{place}"),
+            Ok(Done::Waits(holder)) => write!(f, "waits {engine} 0:{place} for {holder}"),
+            Ok(Done::LetGo(Holder::Free)) => write!(f, "let go {engine} 0:{place} to nobody"),
+            Ok(Done::LetGo(Holder::Engine(next))) => write!(
+                f,
+                "let go {engine} 0:{place} to {next}"
+            ),
+            Ok(Done::Left) => write!(f, "left {engine} 0:{place}"),
+            Err(refusal) => write!(f, "refused {}", refusal.number()),
         }
     }
 }
 
-fn section_head(heap: Global, place: u8, holder: u8, change: u32) -> Result<String, AllocError>
-    ensures { IfOk result (λ s. string_bytes s ≡ head_text place holder change) }
-{
-    format!(in heap; "section 0:{place} {holder} {change}:")
+// A section that somebody has, as one line.
+#[derive(Clone, Copy)]
+pub struct Section<'a> {
+    pub place: u8,
+    pub holder: u8,
+    pub change: u32,
+    pub queue: &'a [u8],
 }
 
-// The line that shows a section that somebody has.
-pub fn section_text(
-    heap: Global,
-    place: u8,
-    holder: u8,
-    change: u32,
-    queue: &[u8],
-) -> Result<String, AllocError>
-    ensures { IfOk result (λ s. string_bytes s ≡ section_text place holder change queue.now) }
-{
-    let mut text = section_head(heap, place, holder, change)?;
-    for engine in queue {
-        let next = format!(in heap; " {engine}")?;
-        text.push_str(next.as_str())?;
+impl fmt::Display for Section<'_> {
+    ghost output = { λ s. Some (section_text s.place s.holder s.change s.queue.now) };
+
+    fn fmt<W: fmt::Write>(&self, f: &mut fmt::Formatter<W>) -> fmt::Result {
+        write!(
+            f,
+            "section 0:{} {} {}:",
+            self.place, self.holder, self.change
+        )?;
+        for engine in self.queue {
+            write!(f, " {engine}")?;
+        }
+        Ok(())
     }
-    Ok(text)
 }

@@ -1,15 +1,14 @@
 -- In a world that steps lead to, the walk from an engine of a ring finds that ring: whoever stands in a queue waits for one only, and a ring has at most 64.
+use Rattle.std.specs.Prelude.{None, Some}
 use Rattle.std.proofs.Common.{◌≡◌, ℕ, zero, suc, ◌+◌, ◌-◌, ◌<◌, ◌≤◌, Bool, true, ◌||◌, eqb, ◌⊎◌, List, [], ◌∷◌, ◌++◌, map, length, Some, None, Option, sym, refl, ap, ◌∙◌, inl, inr, append_assoc, arith}
 use mathlib.Core.List.{Memᴰ}
 use Rattle.std.proofs.lemmas.Bool.{cases_Bool, cases_eq, cond-false, cond-true, eq-eqb, eqb-true, lt-ltb, ne_eqb}
 use Rattle.std.proofs.lemmas.Bool.Decides.{nat_tests}
 use Rattle.messages.specs.declared.yard.Engine.{Engine}
 use Rattle.messages.specs.declared.yard.Section.{Section}
-use Rattle.messages.specs.declared.message.Holder.{Holder}
-use Rattle.messages.specs.declared.message.Holder.TheVariants as holder
+use Rattle.messages.specs.Holder.{Holder}
 use Rattle.keeper.specs.Words.{holder_of}
-use Rattle.sections.specs.declared.Holder.{Holder as SectionHolder}
-use Rattle.sections.specs.declared.Holder.TheVariants as has
+use Rattle.sections.specs.Table.{Holder as SectionHolder}
 use Rattle.sections.specs.Sound.{once}
 use Rattle.sections.specs.Table.{is_in}
 use Rattle.sections.proofs.Lists.{at_most}
@@ -80,17 +79,17 @@ once_apart (x ∷ xs) a =
 
 module _ (w : World) (z : model.Yard) (i : WorldIn w) (m : Modelled w z) where
   -- wherever one that waits stands in a queue, the same one has the section
-  one_only : (e j : ℕ) → WaitsFor w e j → (s : Section) → is_in e (queue_in w s) ≡ true → holder_in w s ≡ has.Engine j
+  one_only : (e j : ℕ) → WaitsFor w e j → (s : Section) → is_in e (queue_in w s) ≡ true → holder_in w s ≡ Some j
   one_only e j waits s there =
       let o = from_mem (queue_in w s) (is_in_lem (queue_in w s) there) in
       let q = queued_of w z i m s o in
       let h = somebody_has w.yard.engines z m.reach e (number_of s) q in
       holder_of_model w z i m s (queue_in_yard w z i m s o) h.1 ∙
-      ap has.Engine (waits_one (sound_in w z i m).places {x = e} {j = h.0} {k = j} (number_of s, q, h.1) (waits_of_world w z i m waits))
+      ap Some (waits_one (sound_in w z i m).places {x = e} {j = h.0} {k = j} (number_of s, q, h.1) (waits_of_world w z i m waits))
 
   -- at one place
   at_place : (e j : ℕ) → WaitsFor w e j → (s : Section) →
-      (whom_at (table_in w s.keeper) e s.place ≡ None) ⊎ (whom_at (table_in w s.keeper) e s.place ≡ Some (holder.Engine (engine j)))
+      (whom_at (table_in w s.keeper) e s.place ≡ None) ⊎ (whom_at (table_in w s.keeper) e s.place ≡ Some (Some (engine j)))
   at_place e j waits s =
       elim (cases_Bool (is_in e (queue_in w s))) [
         | inl p ↦ inr (cond-true (is_in e (queue_in w s)) _ _ p ∙ ap (λ (h : SectionHolder). Some (holder_of h)) (one_only e j waits s p))
@@ -98,12 +97,12 @@ module _ (w : World) (z : model.Yard) (i : WorldIn w) (m : Modelled w z) where
       ]
 
   -- at one box
-  in_box : (e j : ℕ) → WaitsFor w e j → (b : ℕ) → (whom_in (table_in w (box_at b)) e ≡ None) ⊎ (whom_in (table_in w (box_at b)) e ≡ Some (holder.Engine (engine j)))
+  in_box : (e j : ℕ) → WaitsFor w e j → (b : ℕ) → (whom_in (table_in w (box_at b)) e ≡ None) ⊎ (whom_in (table_in w (box_at b)) e ≡ Some (Some (engine j)))
   in_box e j waits b =
-      first_either (whom_at (table_in w (box_at b)) e) (holder.Engine (engine j)) (λ p. at_place e j waits (record { keeper = box_at b; place = p })) 64 0
+      first_either (whom_at (table_in w (box_at b)) e) (Some (engine j)) (λ p. at_place e j waits (record { keeper = box_at b; place = p })) 64 0
 
   by_box : (e j : ℕ) → WaitsFor w e j → (b : ℕ) →
-      (whom_by e (state_at w (box_at b)) ≡ None) ⊎ (whom_by e (state_at w (box_at b)) ≡ Some (holder.Engine (engine j)))
+      (whom_by e (state_at w (box_at b)) ≡ None) ⊎ (whom_by e (state_at w (box_at b)) ≡ Some (Some (engine j)))
   by_box e j waits b =
       elim (cases_Bool (is_box w (box_at b))) [
         | inl is ↦
@@ -113,15 +112,15 @@ module _ (w : World) (z : model.Yard) (i : WorldIn w) (m : Modelled w z) where
       ]
 
   -- WHOM AN ENGINE WAITS FOR IS FOUND
-  pub whom_found : (e j : ℕ) → WaitsFor w e j → whom_of w (engine e) ≡ Some (holder.Engine (engine j))
+  pub whom_found : (e j : ℕ) → WaitsFor w e j → whom_of w (engine e) ≡ Some (Some (engine j))
   whom_found e j (s, o, h) =
       let waits : WaitsFor w e j = (s, o, h) in
       let k = queue_in_yard w z i m s o in
       let there = in_is (queue_in w s) (to_mem (queue_in w s) o) in
       let here = cond-true (is_in e (queue_in w s)) (Some (holder_of (holder_in w s))) None there ∙ ap (λ (x : SectionHolder). Some (holder_of x)) h in
-      let mine = first_found (whom_at (table_in w s.keeper) e) (holder.Engine (engine j)) (λ p. at_place e j waits (record { keeper = s.keeper; place = p })) 64 0 s.place (omega arith) k.1 here in
+      let mine = first_found (whom_at (table_in w s.keeper) e) (Some (engine j)) (λ p. at_place e j waits (record { keeper = s.keeper; place = p })) 64 0 s.place (omega arith) k.1 here in
       let is = lt-ltb s.keeper.0 (length w.stations) (let c = i.count in let l = k.0 in omega arith) in
-      first_found (λ b. whom_by e (state_at w (box_at b))) (holder.Engine (engine j)) (by_box e j waits) w.yard.boxes 0 s.keeper.0 (omega arith) (omega (arith, k.0))
+      first_found (λ b. whom_by e (state_at w (box_at b))) (Some (engine j)) (by_box e j waits) w.yard.boxes 0 s.keeper.0 (omega arith) (omega (arith, k.0))
       (ap (whom_by e) (cond-true (is_box w s.keeper) (Some (station_at w s.keeper).state) None is) ∙ mine)
 
   -- where one goes on to

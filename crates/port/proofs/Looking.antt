@@ -1,9 +1,10 @@
 -- One number, one place of a queue or one engine further: what is left to look at gives what all gives.
+use Rattle.std.specs.Prelude.{None, Some}
 use Rattle.std.proofs.Common.{◌≡◌, ℕ, zero, suc, ◌+◌, ◌-◌, ◌<◌, ◌≤◌, Bool, true, false, cond, ◌||◌, List, [], ◌∷◌, ◌++◌, length, get_or, drop, Some, None, Option, sym, refl, ap, ◌∙◌, arith}
 use Rattle.std.proofs.lemmas.List.{at_drop_more, at_drop_all}
 use Rattle.std.proofs.lemmas.Bool.{eq-eqb, lt-ltb, ne_eqb}
 use Rattle.messages.specs.declared.yard.Engine.{Engine}
-use Rattle.messages.specs.declared.message.Holder.{Holder}
+use Rattle.messages.specs.Holder.{Holder}
 use Rattle.keeper.specs.Words.{waiter_of}
 use Rattle.sections.specs.Table.{is_in}
 use Rattle.port.specs.declared.walk.Next.TheVariants.{Out, Back, On}

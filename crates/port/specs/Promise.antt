@@ -3,7 +3,6 @@ use Rattle.std.specs.Prelude.{◌≡◌, ℕ, ◌⊎◌, List, ◌∷◌, map, S
 use Rattle.messages.specs.declared.yard.Engine.{Engine}
 use Rattle.messages.specs.declared.yard.Section.{Section}
 use Rattle.journal.specs.declared.output.Output.TheVariants as output
-use Rattle.sections.specs.declared.Holder.TheVariants as has
 use Rattle.home.specs.Queries.{engine}
 use Rattle.world.specs.World.{Answer, World}
 use Rattle.world.specs.Runs.{Highest, IsTold, OneOf, Ring, Says, holder_in, queue_in}
@@ -22,6 +21,6 @@ pub record Promised (w u : World) (a : Answer) : Type 0 where
   -- a ring stays a ring, unless one of it had been told
   pub stays : (ring : List ℕ) → Ring w ring → Ring u ring ⊎ ((j : ℕ) × OneOf j ring × IsTold w j)
   -- who has a section after another was first of its queue
-  pub first : (s : Section) (i j : ℕ) → holder_in w s ≡ has.Engine i → holder_in u s ≡ has.Engine j → (i ≢ j) → (rest : List ℕ) × (queue_in w s ≡ j ∷ rest)
+  pub first : (s : Section) (i j : ℕ) → holder_in w s ≡ Some i → holder_in u s ≡ Some j → (i ≢ j) → (rest : List ℕ) × (queue_in w s ≡ j ∷ rest)
   -- who is said to have a section has it, before the step and after it
-  pub had : (e : Engine) (s : Section) → Says a (output.Had e s) → (holder_in w s ≡ has.Engine e.0) × (holder_in u s ≡ has.Engine e.0)
+  pub had : (e : Engine) (s : Section) → Says a (output.Had e s) → (holder_in w s ≡ Some e.0) × (holder_in u s ≡ Some e.0)

@@ -1,8 +1,7 @@
 -- WHOM AN ENGINE WAITS FOR BY THE QUEUES OF ALL BOXES, AND THE WAY ALONG WAITS BACK TO IT. Assumes nothing.
 use Rattle.std.specs.Prelude.{ℕ, zero, suc, ◌+◌, cond, List, [], ◌∷◌, ◌++◌, Some, None, Option, ◌==◌}
 use Rattle.messages.specs.declared.yard.Engine.{Engine}
-use Rattle.messages.specs.declared.message.Holder.{Holder}
-use Rattle.messages.specs.declared.message.Holder.TheVariants as holder
+use Rattle.messages.specs.Holder.{Holder}
 use Rattle.keeper.specs.Words.{holder_of}
 use Rattle.sections.specs.Table.{Table, holder_at, is_in, queue_at}
 use Rattle.boxes.specs.Model.{State}
@@ -39,8 +38,8 @@ whom_of w e = first_from (λ b. whom_by e.0 (state_at w (box_at b))) w.yard.boxe
 -- on from an engine by whom it waits for: the way ends, comes back to the first, or goes on
 abbrev pub after_of : Option Holder → Engine → Next
 after_of None first = Out
-after_of (Some holder.Nobody) first = Out
-after_of (Some (holder.Engine next)) first = cond (next.0 == first.0) Back (On next)
+after_of (Some None) first = Out
+after_of (Some (Some next)) first = cond (next.0 == first.0) Back (On next)
 
 -- what a walk finds that has passed some engines, by where it goes on
 abbrev pub follow : List Engine → (Engine → Option (List Engine)) → Next → Option (List Engine)

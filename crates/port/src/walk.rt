@@ -7,7 +7,7 @@ ghost use Rattle.world.specs.World.{state_at, world_of};
 ghost use Rattle.port.specs.Walk.{after_of, ring_from, whom_at, whom_by, whom_in, whom_of};
 
 use keeper::Keeper;
-use messages::{BoxNumber, Engine, Holder};
+use messages::{BoxNumber, Engine};
 use sections::{ENGINES, PLACES};
 use std::alloc::{AllocError, Global};
 use world::World;
@@ -27,7 +27,7 @@ fn stands(keeper: &Keeper, engine: Engine, place: u8) -> bool
 }
 
 // Who has the section at a place, if the engine stands in its queue.
-fn whom_at(keeper: &Keeper, engine: Engine, place: u8) -> Option<Holder>
+fn whom_at(keeper: &Keeper, engine: Engine, place: u8) -> Option<Option<Engine>>
     ensures { result ≡ whom_at (model_of keeper.now).table engine.0 place }
 {
     if stands(keeper, engine, place) {
@@ -38,7 +38,7 @@ fn whom_at(keeper: &Keeper, engine: Engine, place: u8) -> Option<Holder>
 }
 
 // Whom an engine waits for by one box's sections.
-fn whom_in(keeper: &Keeper, engine: Engine) -> Option<Holder>
+fn whom_in(keeper: &Keeper, engine: Engine) -> Option<Option<Engine>>
     ensures { result ≡ whom_in (model_of keeper.now).table engine.0 }
 {
     for place in 0u8..PLACES {
@@ -49,7 +49,7 @@ fn whom_in(keeper: &Keeper, engine: Engine) -> Option<Holder>
     None
 }
 
-fn whom_by(world: &World, engine: Engine, number: BoxNumber) -> Option<Holder>
+fn whom_by(world: &World, engine: Engine, number: BoxNumber) -> Option<Option<Engine>>
     ensures { result ≡ whom_by engine.0 (state_at (world_of world.now) number) }
 {
     match world.signal_box(number) {
@@ -59,7 +59,7 @@ fn whom_by(world: &World, engine: Engine, number: BoxNumber) -> Option<Holder>
 }
 
 // Whom an engine waits for by the sections of all boxes.
-fn whom(world: &World, engine: Engine) -> Option<Holder>
+fn whom(world: &World, engine: Engine) -> Option<Option<Engine>>
     ensures { result ≡ whom_of (world_of world.now) engine }
 {
     let boxes = world.yard().boxes;
@@ -81,12 +81,12 @@ enum Next {
     On(Engine),
 }
 
-fn after(whom: Option<Holder>, first: Engine) -> Next
+fn after(whom: Option<Option<Engine>>, first: Engine) -> Next
     ensures { result ≡ after_of whom first }
 {
     match whom {
-        None | Some(Holder::Nobody) => Next::Out,
-        Some(Holder::Engine(next)) => {
+        None | Some(None) => Next::Out,
+        Some(Some(next)) => {
             if next.0 == first.0 {
                 Next::Back
             } else {

@@ -8,17 +8,20 @@ use Rattle.messages.specs.declared.message.Act.TheVariants as act
 use Rattle.messages.specs.declared.message.Message.{Message}
 use Rattle.messages.specs.declared.message.Message.TheVariants as message
 use Rattle.messages.specs.declared.message.Refusal.{Refusal}
+use Rattle.messages.specs.Holder.{Holder}
+use Rattle.messages.specs.declared.message.Reply.{Reply}
 use Rattle.messages.specs.declared.message.Reply.TheVariants as reply
+use Rattle.messages.specs.declared.yard.Engine.{Engine}
 use Rattle.messages.specs.Table.{act_byte, bytes_of, four, two}
 use Rattle.journal.specs.declared.output.Output.{Output}
 use Rattle.journal.specs.declared.output.Output.TheVariants as output
 use Rattle.boxes.specs.declared.signal_box.Input.{Input}
 use Rattle.boxes.specs.declared.signal_box.Input.TheVariants as input
-use Rattle.boxes.specs.Emit.{home_of}
+use Rattle.messages.specs.Homes.{home_of}
 use Rattle.boxes.specs.Log.{Log, none}
 use Rattle.boxes.specs.Model.{State}
 use Rattle.boxes.specs.Handle.{delivered_of, received_of}
-use Rattle.box_laws.specs.Away.{IsReport, LineAway}
+use Rattle.box_laws.specs.Away.{IsReply, IsReport, LineAway}
 use Rattle.box_laws.proofs.Away.{free_away, message_away, take_away}
 use Rattle.world.specs.Station.{Station, committed, delivered_at, fresh_station, handled_at}
 use Rattle.world.specs.World.{Answer, Envelope, World, at_box, box_at, carried, deliver_of, is_box, is_sent, message_at, said, station_at, with_message}
@@ -44,15 +47,18 @@ line_away w n j q away =
     (λ _ _. refl)
 
 -- A MESSAGE: that it is a report shows in its bytes
+abbrev is_refused : Reply → Bool
+is_refused reply.Done = false
+is_refused reply.Waits = false
+is_refused (reply.Refused r) = true
+
 abbrev is_report : Message → Bool
 is_report (message.Call c) = false
-is_report (message.Answer e n reply.Done h c) = false
-is_report (message.Answer e n reply.Waits h c) = false
-is_report (message.Answer e n (reply.Refused r) h c) = true
-is_report (message.Change s h c) = true
+is_report (message.Answer e n a) = is_refused a.reply
+is_report (message.Change news) = true
 is_report (message.WhichChange e s) = false
-is_report (message.Sign t n b s) = false
-is_report (message.Waits e s n c) = false
+is_report (message.Sign telling) = false
+is_report (message.Waits waiting) = false
 
 abbrev report_bytes : List ℕ → Bool
 report_bytes xs = eqb (get_or xs 0 0) 5 || (eqb (get_or xs 0 0) 4 && eqb (get_or xs 6 0) 0)
@@ -62,35 +68,44 @@ act_bytes act.Take xs = refl
 act_bytes act.Free xs = refl
 act_bytes act.GiveUp xs = refl
 
+answer_bytes : (e : Engine) (n : ℕ) (r : Reply) (h : Holder) (c : ℕ) → report_bytes (bytes_of (message.Answer e n (record { reply = r; holder = h; change = c }))) ≡ is_refused r
+answer_bytes e n reply.Done h c = refl
+answer_bytes e n reply.Waits h c = refl
+answer_bytes e n (reply.Refused r) h c = refl
+
+is_refused_lem : (r : Reply) → IsReply r → is_refused r ≡ true
+is_refused_lem reply.Done i = absurd i
+is_refused_lem reply.Waits i = absurd i
+is_refused_lem (reply.Refused r) i = refl
+
+refused_is : (r : Reply) → is_refused r ≡ true → IsReply r
+refused_is reply.Done q = absurd (both_ways false refl q)
+refused_is reply.Waits q = absurd (both_ways false refl q)
+refused_is (reply.Refused r) q = tt
+
 report_bytes_lem : (m : Message) → report_bytes (bytes_of m) ≡ is_report m
 report_bytes_lem (message.Call c) = act_bytes c.act (c.engine.0 ∷ two c.section ++ four c.number)
-report_bytes_lem (message.Answer e n reply.Done h c) = refl
-report_bytes_lem (message.Answer e n reply.Waits h c) = refl
-report_bytes_lem (message.Answer e n (reply.Refused r) h c) = refl
-report_bytes_lem (message.Change s h c) = refl
+report_bytes_lem (message.Answer e n a) = answer_bytes e n a.reply a.holder a.change
+report_bytes_lem (message.Change news) = refl
 report_bytes_lem (message.WhichChange e s) = refl
-report_bytes_lem (message.Sign t n b s) = refl
-report_bytes_lem (message.Waits e s n c) = refl
+report_bytes_lem (message.Sign telling) = refl
+report_bytes_lem (message.Waits waiting) = refl
 
 is_report_lem : (m : Message) → IsReport m → is_report m ≡ true
 is_report_lem (message.Call c) i = absurd i
-is_report_lem (message.Answer e n reply.Done h c) i = absurd i
-is_report_lem (message.Answer e n reply.Waits h c) i = absurd i
-is_report_lem (message.Answer e n (reply.Refused r) h c) i = refl
-is_report_lem (message.Change s h c) i = refl
+is_report_lem (message.Answer e n a) i = is_refused_lem a.reply i
+is_report_lem (message.Change news) i = refl
 is_report_lem (message.WhichChange e s) i = absurd i
-is_report_lem (message.Sign t n b s) i = absurd i
-is_report_lem (message.Waits e s n c) i = absurd i
+is_report_lem (message.Sign telling) i = absurd i
+is_report_lem (message.Waits waiting) i = absurd i
 
 report_is : (m : Message) → is_report m ≡ true → IsReport m
 report_is (message.Call c) q = absurd (both_ways false refl q)
-report_is (message.Answer e n reply.Done h c) q = absurd (both_ways false refl q)
-report_is (message.Answer e n reply.Waits h c) q = absurd (both_ways false refl q)
-report_is (message.Answer e n (reply.Refused r) h c) q = tt
-report_is (message.Change s h c) q = tt
+report_is (message.Answer e n a) q = refused_is a.reply q
+report_is (message.Change news) q = tt
 report_is (message.WhichChange e s) q = absurd (both_ways false refl q)
-report_is (message.Sign t n b s) q = absurd (both_ways false refl q)
-report_is (message.Waits e s n c) q = absurd (both_ways false refl q)
+report_is (message.Sign telling) q = absurd (both_ways false refl q)
+report_is (message.Waits waiting) q = absurd (both_ways false refl q)
 
 same_report : (m x : Message) → bytes_of m ≡ bytes_of x → IsReport m → IsReport x
 same_report m x q i = report_is x (sym (report_bytes_lem x) ∙ ap report_bytes (sym q) ∙ report_bytes_lem m ∙ is_report_lem m i)

@@ -1,4 +1,5 @@
 -- A box that comes up from its records knows nothing besides what is stored.
+use Rattle.std.specs.Prelude.{None}
 use Rattle.std.proofs.Common.{◌≡◌, ℕ, zero, suc, ◌+◌, Bool, true, false, cond, eqb, ltb, List, [], ◌∷◌, get_or, set, replicate, Ok, Err, Result, sym, refl, subst, arith}
 use Rattle.messages.specs.declared.yard.BoxNumber.{BoxNumber}
 use Rattle.messages.specs.declared.yard.Engine.{Engine}
@@ -9,8 +10,8 @@ use Rattle.messages.specs.declared.message.Record.TheVariants as journal
 use Rattle.engine_state.specs.declared.state.Known.{Known}
 use Rattle.engine_state.specs.declared.state.Known.TheVariants as known
 use Rattle.engine_state.specs.declared.state.State as engines
+use Rattle.home.specs.Noted.{Noted}
 use Rattle.home.specs.declared.home.Home.{Home}
-use Rattle.home.specs.declared.home.Note.TheVariants as note
 use Rattle.home.specs.Home.{apply_of, is_ours, with}
 use Rattle.home.specs.Queries.{engine, note_at}
 use Rattle.keeper.specs.Calls.{call_of}
@@ -20,7 +21,7 @@ use Rattle.refinement.proofs.Starting.{all_same}
 
 -- nothing is known of any engine, and nobody is noted
 abbrev pub Blank : Home → Type 0
-Blank h = ((e : ℕ) → get_or h.known e known.Pending ≡ known.Pending) × ((e : ℕ) → note_at h (engine e) ≡ note.Nothing)
+Blank h = ((e : ℕ) → get_or h.known e known.Pending ≡ known.Pending) × ((e : ℕ) → note_at h (engine e) ≡ None)
 
 -- set to what is read there past the end, a list of the same is still one
 same_set : {A : Type 0} (xs : List A) (i : ℕ) (a : A) → ((k : ℕ) → get_or xs k a ≡ a) → (k : ℕ) → get_or (set xs i a) k a ≡ a
@@ -40,7 +41,7 @@ if_blank h e x false q b = b
 apply_blank : (h : Home) (r : Record) → Blank h → Blank (apply_of h r)
 apply_blank h (journal.Kept c) b = b
 apply_blank h (journal.Made c) b = if_blank h c.engine _ (is_ours h c.engine) refl b
-apply_blank h (journal.Beginning e s m w n o) b = if_blank h e _ (is_ours h e) refl b
+apply_blank h (journal.Beginning start) b = if_blank h start.engine _ (is_ours h start.engine) refl b
 apply_blank h (journal.Heard e s) b = if_blank h e _ (is_ours h e) (b.0 e.0) b
 
 kept_blank : (b : State) (c : Call) (t : Bool) → Blank b.home → Blank (cond {A = State × Bool} t (with_keeper b (call_of b.keeper c).0, used_up (call_of b.keeper c).1) (b, false)).0.home
@@ -54,7 +55,7 @@ home_blank b r false k = k
 replay_blank : (b : State) (r : Record) → Blank b.home → Blank (replay_of b r).0.home
 replay_blank b (journal.Kept c) k = kept_blank b c (eqb c.section.keeper.0 b.home.number.0) k
 replay_blank b (journal.Made c) k = home_blank b (journal.Made c) (is_sound b.home (journal.Made c)) k
-replay_blank b (journal.Beginning e s m w n o) k = home_blank b (journal.Beginning e s m w n o) (is_sound b.home (journal.Beginning e s m w n o)) k
+replay_blank b (journal.Beginning start) k = home_blank b (journal.Beginning start) (is_sound b.home (journal.Beginning start)) k
 replay_blank b (journal.Heard e s) k = home_blank b (journal.Heard e s) (is_sound b.home (journal.Heard e s)) k
 
 same_ok : {b c : State} → ◌≡◌ {A = Result State ℕ} (Ok b) (Ok c) → b ≡ c
@@ -75,6 +76,8 @@ open_blank i (r ∷ rs) b c q k = go (replay_of b r).1 (λ p. open_blank (i + 1)
 pub fresh_blank : (y : Yard) (n : BoxNumber) → Blank (fresh y n).home
 fresh_blank y n = (λ e. all_same 64 known.Pending e, λ e. go e (ltb e 64))
   where
-    go : (e : ℕ) (t : Bool) → cond t (get_or (replicate 64 note.Nothing) e note.Nothing) note.Nothing ≡ note.Nothing
-    go e true = all_same 64 note.Nothing e
+    nothing : Noted
+    nothing = None
+    go : (e : ℕ) (t : Bool) → cond t (get_or (replicate 64 nothing) e nothing) nothing ≡ nothing
+    go e true = all_same 64 nothing e
     go e false = refl

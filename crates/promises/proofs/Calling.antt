@@ -1,4 +1,5 @@
 -- A mode becomes a call only where the call is sent, and a section is said to be had only by one that asks or waits for it: input by input.
+use Rattle.std.specs.Prelude.{None, Some}
 use Rattle.std.proofs.Common.{◌≡◌, ℕ, zero, suc, Bool, true, false, cond, not, ◌&&◌, ◌||◌, eqb, ltb, leb, ◌⊎◌, List, [], ◌∷◌, get_or, set, is_some, Some, None, Ok, Err, Option, Result, sym, refl, ap, ◌∙◌, subst, inl, inr, arith}
 use Rattle.std.proofs.lemmas.Bool.{and_parts, cond_both, eqb-true}
 use Rattle.messages.specs.declared.yard.BoxNumber.{BoxNumber}
@@ -7,8 +8,7 @@ use Rattle.messages.specs.declared.yard.Section.{Section}
 use Rattle.messages.specs.declared.message.Act.{Act}
 use Rattle.messages.specs.declared.message.Act.TheVariants as act
 use Rattle.messages.specs.declared.message.Call.{Call}
-use Rattle.messages.specs.declared.message.Holder.{Holder}
-use Rattle.messages.specs.declared.message.Holder.TheVariants as holder
+use Rattle.messages.specs.Holder.{Holder}
 use Rattle.messages.specs.declared.message.Refusal.{Refusal}
 use Rattle.messages.specs.declared.message.Refusal.TheVariants as refusal
 use Rattle.messages.specs.declared.message.Reply.{Reply}
@@ -17,8 +17,7 @@ use Rattle.signs.specs.declared.Engine as signs
 use Rattle.signs.specs.declared.Heard as spoken
 use Rattle.signs.specs.declared.Heard.TheVariants.{TellOn, Found, PassedOver}
 use Rattle.signs.specs.declared.Refusal as signRefusal
-use Rattle.signs.specs.declared.Wait as whom
-use Rattle.signs.specs.declared.Wait.TheVariants.{Nobody, For}
+use Rattle.signs.specs.Signs as whom
 use Rattle.signs.specs.Signs.{begin_of, listen_of}
 use Rattle.engine_state.specs.declared.state.Event.{Event}
 use Rattle.engine_state.specs.declared.state.Event.TheVariants as event
@@ -54,9 +53,9 @@ MadeBy (event.Had e s) k m = ⊥
 MadeBy event.Closed k m = ⊥
 MadeBy (event.Called c) k m = (c.engine.0 ≡ k) × (m ≡ mode.Called c.act c.section c.number)
 MadeBy (event.Found c) k m = (c.engine.0 ≡ k) × (m ≡ mode.Called c.act c.section c.number)
-MadeBy (event.Began e s c w n own) k m = m ≡ mode.Waiting s c
+MadeBy (event.Began start) k m = m ≡ mode.Waiting start.section start.change
 MadeBy (event.Heard e s) k m = ⊥
-MadeBy (event.Noted to n by s) k m = ⊥
+MadeBy (event.Noted telling) k m = ⊥
 
 set_read : {A : Type 0} (xs : List A) (n k : ℕ) (v d : A) → (get_or (set xs n v) k d ≡ get_or xs k d) ⊎ ((n ≡ k) × (get_or (set xs n v) k d ≡ v))
 set_read [] n k v d = inl refl
@@ -91,13 +90,13 @@ turned h i k = by-event (homes.step_of h i).1 (homes.step_of h i).0.stored (ap (
     by-event (event.Found c) g q =
         let r = ap (λ (xs : List Stored). (get_or xs k unread).mode) q in
         elim (ours_read h c.engine (λ x. made x c) k) [ inl o ↦ inl (r ∙ o) | inr o ↦ inr (o.0, r ∙ o.1) ]
-    by-event (event.Began e s c w n own) g q =
+    by-event (event.Began start) g q =
         let r = ap (λ (xs : List Stored). (get_or xs k unread).mode) q in
-        elim (ours_read h e (λ x. begun x s c w n own) k) [ inl o ↦ inl (r ∙ o) | inr o ↦ inr (r ∙ o.1) ]
+        elim (ours_read h start.engine (λ x. begun x start.section start.change start.holder start.count start.own) k) [ inl o ↦ inl (r ∙ o) | inr o ↦ inr (r ∙ o.1) ]
     by-event (event.Heard e s) g q =
         let r = ap (λ (xs : List Stored). (get_or xs k unread).mode) q in
         elim (ours_read h e (λ x. heard x s) k) [ inl o ↦ inl (r ∙ o) | inr o ↦ inl (r ∙ o.1 ∙ ap (λ (j : ℕ). mode_at h j) o.0) ]
-    by-event (event.Noted to n by s) g q = inl (ap (λ (xs : List Stored). (get_or xs k unread).mode) q)
+    by-event (event.Noted telling) g q = inl (ap (λ (xs : List Stored). (get_or xs k unread).mode) q)
 
 -- WHO IS SAID TO HAVE
 -- a mode that asks or waits for a section
@@ -117,17 +116,17 @@ HadBy e m (event.Had f s) = (f ≡ e) × Wants s m
 HadBy e m event.Closed = Unit {0}
 HadBy e m (event.Called c) = ⊥
 HadBy e m (event.Found c) = Unit {0}
-HadBy e m (event.Began f s c w n own) = Unit {0}
+HadBy e m (event.Began start) = Unit {0}
 HadBy e m (event.Heard f s) = Unit {0}
-HadBy e m (event.Noted to n by s) = Unit {0}
+HadBy e m (event.Noted telling) = Unit {0}
 
 begun_had : (m : Mode) (x : State) (e : Engine) (s : Section) (c : ℕ) (w : Engine) (r : Result signs.Engine signRefusal.Refusal) → HadBy e m (begun_with x e s c w r).1
 begun_had m x e s c w (Ok y) = tt
 begun_had m x e s c w (Err r) = tt
 
 waits_had : (m : Mode) (x : State) (e : Engine) (c : Call) (k n : ℕ) (h : Holder) → HadBy c.engine m (waits_for x c k n h).1
-waits_had m x e c k n holder.Nobody = tt
-waits_had m x e c k n (holder.Engine f) = go (eqb f.0 c.engine.0)
+waits_had m x e c k n None = tt
+waits_had m x e c k n (Some f) = go (eqb f.0 c.engine.0)
   where
     go : (t : Bool) → HadBy c.engine m (cond {A = State × Event} t (x, event.Refused refusal.WrongCall) (begin_at x c.engine k c.section n f)).1
     go true = tt
@@ -172,8 +171,8 @@ that_section s t q =
     same_section_lem (eqb-true s.keeper.0 t.keeper.0 p.0) (eqb-true s.place t.place p.1)
 
 passed_had : (x : State) (e : Engine) (k : ℕ) (s : Section) (c : ℕ) (h : Holder) (m : Mode) → Wants s m → HadBy e m (passed_to x e k s c h).1
-passed_had x e k s c holder.Nobody m w = tt
-passed_had x e k s c (holder.Engine f) m w = go (eqb f.0 e.0)
+passed_had x e k s c None m w = tt
+passed_had x e k s c (Some f) m w = go (eqb f.0 e.0)
   where
     go : (t : Bool) → HadBy e m (cond {A = State × Event} t (knowing x known.Had, event.Had e s) (begin_at x e k s c f)).1
     go true = (refl, w)
@@ -189,8 +188,8 @@ change_had x e k s h c = go x.known x.stored.mode x.signs.wait
     go known.Closed m v = tt
     go known.Pending mode.Idle v = tt
     go known.Pending (mode.Called a t n) v = tt
-    go known.Pending (mode.Waiting t n) Nobody = tt
-    go known.Pending (mode.Waiting t n) (For j) =
+    go known.Pending (mode.Waiting t n) None = tt
+    go known.Pending (mode.Waiting t n) (Some j) =
         cond_both (same_section t s && ltb n c) _ _ (λ (p : State × Event). HadBy e (mode.Waiting t n) p.1)
         (λ q. passed_had x e k s c h (mode.Waiting t n) (that_section t s (and_parts (same_section t s) (ltb n c) q).0)) (λ _. tt)
 
@@ -221,9 +220,9 @@ HadAt h (event.Had f s) = (is_ours h f ≡ true) × Wants s (mode_at h f.0)
 HadAt h event.Closed = Unit {0}
 HadAt h (event.Called c) = c.act ≡ act.GiveUp → ⊥
 HadAt h (event.Found c) = Unit {0}
-HadAt h (event.Began f s c w n own) = Unit {0}
+HadAt h (event.Began start) = Unit {0}
 HadAt h (event.Heard f s) = Unit {0}
-HadAt h (event.Noted to n by s) = Unit {0}
+HadAt h (event.Noted telling) = Unit {0}
 
 by_had : (h : Home) (e : Engine) (v : Event) → is_ours h e ≡ true → HadBy e (mode_at h e.0) v → HadAt h v
 by_had h e event.PassedOver o k = tt
@@ -233,9 +232,9 @@ by_had h e (event.Had f s) o k = subst (λ (g : Engine). (is_ours h g ≡ true) 
 by_had h e event.Closed o k = tt
 by_had h e (event.Called c) o k = absurd k
 by_had h e (event.Found c) o k = tt
-by_had h e (event.Began f s c w n own) o k = tt
+by_had h e (event.Began start) o k = tt
 by_had h e (event.Heard f s) o k = tt
-by_had h e (event.Noted to n by s) o k = tt
+by_had h e (event.Noted telling) o k = tt
 
 ours_had : (h : Home) (e : Engine) (f : State → State × Event) → HadBy e (mode_at h e.0) (f (at h e)).1 → HadAt h (at_ours h e f).1
 ours_had h e f k = cond_both (is_ours h e) (put_in h e (f (at h e))) (h, event.Refused refusal.Malformed) (λ (p : Home × Event). HadAt h p.1) (λ o. by_had h e (f (at h e)).1 o k) (λ _. tt)

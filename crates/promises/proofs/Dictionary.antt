@@ -1,4 +1,5 @@
 -- What is read of a world is the same in the model that has it: who has a section and who waits, rings, own signs, and who was told.
+use Rattle.std.specs.Prelude.{None, Some}
 use Rattle.std.proofs.Common.{◌≡◌, ℕ, ◌<◌, ◌≤◌, List, [], ◌∷◌, sym, refl, ap, ◌∙◌, subst, inl, inr, arith}
 use mathlib.Core.List.Memᴰ
 use mathlib.Core.List.{Memᴰ}
@@ -7,11 +8,9 @@ use Rattle.std.proofs.lemmas.Bool.{cases_lt}
 use Rattle.messages.specs.declared.yard.Section.{Section}
 use Rattle.messages.specs.declared.message.Act.TheVariants as act
 use Rattle.messages.specs.Range.{SectionIn}
-use Rattle.sections.specs.declared.Holder.{Holder}
-use Rattle.sections.specs.declared.Holder.TheVariants as has
+use Rattle.sections.specs.Table.{Holder}
 use Rattle.sections.specs.Table as table
-use Rattle.signs.specs.declared.Wait as whom
-use Rattle.signs.specs.declared.Wait.TheVariants.{Nobody, For}
+use Rattle.signs.specs.Signs as whom
 use Rattle.engine_state.specs.declared.state.Mode.{Mode}
 use Rattle.engine_state.specs.declared.state.Mode.TheVariants as mode
 use Rattle.home.specs.Queries.{engine}
@@ -48,9 +47,9 @@ apart_of [] d = tt
 apart_of (i ∷ is) d = (λ m. d.0 (to_mem is m), apart_of is d.1)
 
 -- a holder read back
-by_holder : (h : Holder) (j : ℕ) → holder_by h ≡ by j → h ≡ has.Engine j
-by_holder has.Free j q = absurd (let z : ◌≡◌ {A = ℕ} 0 1 = cc in omega arith)
-by_holder (has.Engine i) j q = ap has.Engine (same q)
+by_holder : (h : Holder) (j : ℕ) → holder_by h ≡ by j → h ≡ Some j
+by_holder None j q = absurd (let z : ◌≡◌ {A = ℕ} 0 1 = cc in omega arith)
+by_holder (Some i) j q = ap Some (same q)
   where
     same : by i ≡ by j → i ≡ j
     same e = cc
@@ -93,10 +92,10 @@ module _ (w : World) (z : model.Yard) (i : WorldIn w) (m : Modelled w z) where
   queue_of_model {x} s k q = from_mem (queue_in w s) (subst (λ (p : List ℕ). Memᴰ x p) (section_as s k).queue q)
 
   -- who has a section
-  pub holder_of_world : {x : ℕ} (s : Section) → SectionIn w.yard s → holder_in w s ≡ has.Engine x → model.holder z (number_of s) ≡ by x
+  pub holder_of_world : {x : ℕ} (s : Section) → SectionIn w.yard s → holder_in w s ≡ Some x → model.holder z (number_of s) ≡ by x
   holder_of_world s k q = (section_as s k).holder ∙ ap holder_by q
 
-  pub holder_of_model : {x : ℕ} (s : Section) → SectionIn w.yard s → model.holder z (number_of s) ≡ by x → holder_in w s ≡ has.Engine x
+  pub holder_of_model : {x : ℕ} (s : Section) → SectionIn w.yard s → model.holder z (number_of s) ≡ by x → holder_in w s ≡ Some x
   holder_of_model {x} s k q = by_holder (holder_in w s) x (sym (section_as s k).holder ∙ q)
 
   -- an engine of the yard is the same in both
@@ -122,8 +121,8 @@ module _ (w : World) (z : model.Yard) (i : WorldIn w) (m : Modelled w z) where
       go (mode.Called act.Take t n) v k a = (t, k, a)
       go (mode.Called act.Free t n) v k a = absurd a
       go (mode.Called act.GiveUp t n) v k a = (t, k, a)
-      go (mode.Waiting t c) Nobody k a = absurd a
-      go (mode.Waiting t c) (For j) k a = (t, k.0, a)
+      go (mode.Waiting t c) None k a = absurd a
+      go (mode.Waiting t c) (Some j) k a = (t, k.0, a)
 
   -- WAITS
   pub waits_of_world : {x j : ℕ} → worlds.WaitsFor w x j → model.WaitsFor z x j
@@ -181,5 +180,5 @@ module _ (w : World) (z : model.Yard) (i : WorldIn w) (m : Modelled w z) where
         where
           same : {a b : ℕ} → leaving a ≡ leaving b → a ≡ b
           same g = cc
-      go (mode.Waiting t c) Nobody e k f = absurd (let n : ◌≡◌ {A = ℕ} 0 1 = cc in omega arith)
-      go (mode.Waiting t c) (For j) e k f = absurd (let n : ◌≡◌ {A = ℕ} 0 1 = cc in omega arith)
+      go (mode.Waiting t c) None e k f = absurd (let n : ◌≡◌ {A = ℕ} 0 1 = cc in omega arith)
+      go (mode.Waiting t c) (Some j) e k f = absurd (let n : ◌≡◌ {A = ℕ} 0 1 = cc in omega arith)

@@ -1,4 +1,5 @@
 -- Who is said to have a section asked or waited for it, so isn't freeing it; and as long as it sends no free its mode doesn't become freeing, so it has it.
+use Rattle.std.specs.Prelude.{None, Some}
 use Rattle.std.proofs.Common.{◌≡◌, ℕ, ◌<◌, List, [], ◌∷◌, sym, refl, ap, ◌∙◌, subst, inl, inr, arith}
 use Rattle.messages.specs.declared.yard.Engine.{Engine}
 use Rattle.messages.specs.declared.yard.Section.{Section}
@@ -8,9 +9,7 @@ use Rattle.messages.specs.declared.message.Message.TheVariants as message
 use Rattle.messages.specs.Range.{SectionIn}
 use Rattle.journal.specs.declared.output.Output.{Output}
 use Rattle.journal.specs.declared.output.Output.TheVariants as output
-use Rattle.sections.specs.declared.Holder.TheVariants as has
-use Rattle.signs.specs.declared.Wait as whom
-use Rattle.signs.specs.declared.Wait.TheVariants.{Nobody, For}
+use Rattle.signs.specs.Signs as whom
 use Rattle.engine_state.specs.declared.state.Mode.{Mode}
 use Rattle.engine_state.specs.declared.state.Mode.TheVariants as mode
 use Rattle.world.specs.declared.step.Step.{Step}
@@ -51,8 +50,8 @@ wanted_kept s mode.Idle v n k q = k
 wanted_kept s (mode.Called act.Take t c) v n k q = let z : ◌≡◌ {A = ℕ} 0 1 = cc in omega arith
 wanted_kept s (mode.Called act.Free t c) v n k q = k
 wanted_kept s (mode.Called act.GiveUp t c) v n k q = k
-wanted_kept s (mode.Waiting t c) Nobody n k q = let z : ◌≡◌ {A = ℕ} 0 1 = cc in omega arith
-wanted_kept s (mode.Waiting t c) (For j) n k q = let z : ◌≡◌ {A = ℕ} 0 1 = cc in omega arith
+wanted_kept s (mode.Waiting t c) None n k q = let z : ◌≡◌ {A = ℕ} 0 1 = cc in omega arith
+wanted_kept s (mode.Waiting t c) (Some j) n k q = let z : ◌≡◌ {A = ℕ} 0 1 = cc in omega arith
 
 -- one that frees a section in the model has called so at its home
 freeing_called : (y : Yard) (s : Section) (m : Mode) (v : whom.Wait) → SectionIn y s → ModeIn y m v → mode_by m v ≡ model.freeing (number_of s) → (n : ℕ) × (m ≡ mode.Called act.Free s n)
@@ -63,8 +62,8 @@ freeing_called y s (mode.Called act.Free t c) v i k q = (c, ap (λ (r : Section)
     same : {a b : ℕ} → model.freeing a ≡ model.freeing b → a ≡ b
     same g = cc
 freeing_called y s (mode.Called act.GiveUp t c) v i k q = absurd (let z : ◌≡◌ {A = ℕ} 0 1 = cc in omega arith)
-freeing_called y s (mode.Waiting t c) Nobody i k q = absurd (let z : ◌≡◌ {A = ℕ} 0 1 = cc in omega arith)
-freeing_called y s (mode.Waiting t c) (For j) i k q = absurd (let z : ◌≡◌ {A = ℕ} 0 1 = cc in omega arith)
+freeing_called y s (mode.Waiting t c) None i k q = absurd (let z : ◌≡◌ {A = ℕ} 0 1 = cc in omega arith)
+freeing_called y s (mode.Waiting t c) (Some j) i k q = absurd (let z : ◌≡◌ {A = ℕ} 0 1 = cc in omega arith)
 
 -- one has a section in the model and isn't freeing it
 pub record Has (w : World) (z : model.Yard) (e : Engine) (s : Section) : Type 0 where
@@ -117,7 +116,7 @@ said_later {t} (x, (before, after, q), k) = (x, (t ∷ before, after, ap (λ (xs
 
 -- and so along a run
 pub has_along : {w v : World} {steps : List Taken} (z : model.Yard) (i : WorldIn w) (m : Modelled w z) (e : Engine) (place : Section) → worlds.Run w steps v → ((n : ℕ) → SaidIn steps (free_of e place n) → ⊥) → Has w z e place →
-    holder_in v place ≡ has.Engine e.0
+    holder_in v place ≡ Some e.0
 has_along {w} z i m e place nothing unsaid h = holder_of_model w z i m place h.place h.holder
 has_along {w} z i m e place (then {u = u} {s = s} {a = a} made more) unsaid h =
     has_along (step_is_run w z i m s (u, a) made).now (makes_in w s (u, a) i made) (step_is_run w z i m s (u, a) made).modelled e place more (λ n k. unsaid n (said_later k))
@@ -125,7 +124,7 @@ has_along {w} z i m e place (then {u = u} {s = s} {a = a} made more) unsaid h =
 
 -- at the moment when it is said
 pub has_then : (w : World) (z : model.Yard) (i : WorldIn w) (m : Modelled w z) (e : Engine) (place : Section) (s : Step) (u : World) (a : Answer) → (made : Makes w s (u, a)) → Says a (output.Had e place) →
-    (holder_in w place ≡ has.Engine e.0) × Has u (step_is_run w z i m s (u, a) made).now e place
+    (holder_in w place ≡ Some e.0) × Has u (step_is_run w z i m s (u, a) made).now e place
 has_then w z i m e place s u a made says =
     let r = step_is_run w z i m s (u, a) made in
     let y = same_yard w s (u, a) made in

@@ -12,7 +12,7 @@ use Rattle.keeper.specs.Model as keeper
 use Rattle.journal.specs.declared.output.Output.{Output}
 use Rattle.boxes.specs.declared.signal_box.Input.{Input}
 use Rattle.boxes.specs.declared.signal_box.Input.TheVariants as input
-use Rattle.boxes.specs.Emit.{home_of}
+use Rattle.messages.specs.Homes.{home_of}
 use Rattle.boxes.specs.Log.{none}
 use Rattle.box_laws.proofs.Keepers.{call_table}
 use Rattle.box_laws.proofs.Runs.{delivered_keeps, handled_keeps}

@@ -1,4 +1,5 @@
 -- At one box: a mode that has become a call was sent as one, and whoever is said to have a section is of this box and asks or waits for it.
+use Rattle.std.specs.Prelude.{None, Some}
 use Rattle.std.proofs.Common.{◌≡◌, ℕ, zero, suc, ◌%◌, ◌<◌, Bool, true, false, cond, eqb, ◌⊎◌, List, [], ◌∷◌, ◌++◌, get_or, Some, None, Ok, Err, Option, Result, sym, refl, ap, ◌∙◌, subst, inl, inr}
 use mathlib.Core.List.Memᴰ
 use mathlib.Core.List.{Memᴰ}
@@ -9,8 +10,7 @@ use Rattle.messages.specs.declared.yard.Section.{Section}
 use Rattle.messages.specs.declared.yard.Yard.{Yard}
 use Rattle.messages.specs.declared.message.Act.TheVariants as act
 use Rattle.messages.specs.declared.message.Call.{Call}
-use Rattle.messages.specs.declared.message.Holder.{Holder}
-use Rattle.messages.specs.declared.message.Holder.TheVariants as holder
+use Rattle.messages.specs.Holder.{Holder}
 use Rattle.messages.specs.declared.message.Message.{Message}
 use Rattle.messages.specs.declared.message.Message.TheVariants as message
 use Rattle.messages.specs.declared.message.Refusal.TheVariants as refusal
@@ -34,8 +34,7 @@ use Rattle.engine_state.specs.State.{knowing, unread}
 use Rattle.engine_state.specs.Calls.{wait_of}
 use Rattle.engine_state.specs.Inputs.{begin_at, begun_with, change_at, is_later, passed_to}
 use Rattle.home.specs.declared.home.Home.{Home}
-use Rattle.home.specs.declared.home.Note.{Note}
-use Rattle.home.specs.declared.home.Note.TheVariants as note
+use Rattle.home.specs.Noted.{Noted}
 use Rattle.home.specs.Home.{at, is_home, is_ours}
 use Rattle.home.specs.Inputs.{change_of, put_in}
 use Rattle.home.specs.Queries.{engine, giving_back_at, holds_at, note_at, open_at, signs_at, wait_at}
@@ -44,7 +43,8 @@ use Rattle.journal.specs.declared.output.Output.{Output}
 use Rattle.journal.specs.declared.output.Output.TheVariants as output
 use Rattle.boxes.specs.declared.signal_box.Input.{Input}
 use Rattle.boxes.specs.declared.signal_box.Input.TheVariants as input
-use Rattle.boxes.specs.Emit.{emit_of, home_of, tell_noted, tell_of, tells_of}
+use Rattle.messages.specs.Homes.{home_of}
+use Rattle.boxes.specs.Emit.{emit_of, tell_noted, tell_of, tells_of}
 use Rattle.boxes.specs.Handle.{change_for, handle_of, happened, open_again, received_of, reminder_for, reminders_of, second_for, second_of, tell_again, wait_again, wait_at_box, wait_sent}
 use Rattle.boxes.specs.Keeping.{called_at, change_to, for_us, refused, ruled_log}
 use Rattle.boxes.specs.Log.{Log, each, none, said, sent}
@@ -95,9 +95,9 @@ module _ (P : Output → Type 0) (other : (o : Output) → NotHad o → P o) whe
   tells_all : (h : Home) (j : Engine) (v : ℕ) (l : Log) → All P l.outputs → All P (tells_of h j v l).outputs
   tells_all h j v l a = each_all (λ x. tell_of h j v (engine x)) (λ x k i. go x (note_at h (engine x)) k i) h.yard.engines l a
     where
-      go : (x : ℕ) (m : Note) (k : Log) → All P k.outputs → All P (tell_noted h j v (engine x) m k).outputs
-      go x note.Nothing k i = i
-      go x (note.Waits s c) k i = cond_both (holds_at h j s) _ _ (λ (q : Log). All P q.outputs) (λ _. sent_all k _ _ i) (λ _. i)
+      go : (x : ℕ) (m : Noted) (k : Log) → All P k.outputs → All P (tell_noted h j v (engine x) m k).outputs
+      go x None k i = i
+      go x (Some seen) k i = cond_both (holds_at h j seen.section) _ _ (λ (q : Log). All P q.outputs) (λ _. sent_all k _ _ i) (λ _. i)
 
   -- what an event says of having
   abbrev SaysHad : Event → Type 0
@@ -108,9 +108,9 @@ module _ (P : Output → Type 0) (other : (o : Output) → NotHad o → P o) whe
   SaysHad event.Closed = Unit {0}
   SaysHad (event.Called c) = Unit {0}
   SaysHad (event.Found c) = Unit {0}
-  SaysHad (event.Began e s c w n own) = Unit {0}
+  SaysHad (event.Began start) = Unit {0}
   SaysHad (event.Heard e s) = Unit {0}
-  SaysHad (event.Noted to n by s) = Unit {0}
+  SaysHad (event.Noted telling) = Unit {0}
 
   emit_all : (h : Home) (v : Event) (l : Log) → All P l.outputs → SaysHad v → All P (emit_of h v l).outputs
   emit_all h event.PassedOver l a k = a
@@ -120,9 +120,9 @@ module _ (P : Output → Type 0) (other : (o : Output) → NotHad o → P o) whe
   emit_all h event.Closed l a k = a
   emit_all h (event.Called c) l a k = sent_all l _ _ a
   emit_all h (event.Found c) l a k = sent_all (said l (output.GiveBack c.engine)) _ _ (said_all l.outputs (output.GiveBack c.engine) a (other (output.GiveBack c.engine) tt))
-  emit_all h (event.Began e s c w n own) l a k = tells_all h e own _ (sent_all l _ _ a)
+  emit_all h (event.Began start) l a k = tells_all h start.engine start.own _ (sent_all l _ _ a)
   emit_all h (event.Heard e s) l a k = tells_all h e s _ a
-  emit_all h (event.Noted to n by s) l a k = sent_all l _ _ a
+  emit_all h (event.Noted telling) l a k = sent_all l _ _ a
 
   -- a call at a section's box
   ruled_all : (b : Box) (c : Call) (v : Verdict) (l : Log) → All P l.outputs → All P (ruled_log b c v l).outputs
@@ -209,9 +209,9 @@ from_event g h (event.Had e s) l k m a w = absurd w
 from_event g h event.Closed l k m a w = absurd w
 from_event g h (event.Called c) l k m a w = from_call h l c k m a w
 from_event g h (event.Found c) l k m a w = from_found h l c k m w
-from_event g h (event.Began e s c x n own) l k m a w = subst (λ (o : Mode). From (emit_of h (event.Began e s c x n own) l).outputs k o) (sym w) tt
+from_event g h (event.Began start) l k m a w = subst (λ (o : Mode). From (emit_of h (event.Began start) l).outputs k o) (sym w) tt
 from_event g h (event.Heard e s) l k m a w = absurd w
-from_event g h (event.Noted to n by s) l k m a w = absurd w
+from_event g h (event.Noted telling) l k m a w = absurd w
 
 module _ (y : Yard) (n : ℕ) where
   -- what an event says of having, said with the modes after it
@@ -225,9 +225,9 @@ module _ (y : Yard) (n : ℕ) where
   had_after b z f event.Closed a t = tt
   had_after b z f (event.Called c) a t = tt
   had_after b z f (event.Found c) a t = tt
-  had_after b z f (event.Began e s c w k own) a t = tt
+  had_after b z f (event.Began start) a t = tt
   had_after b z f (event.Heard e s) a t = tt
-  had_after b z f (event.Noted to k by s) a t = tt
+  had_after b z f (event.Noted telling) a t = tt
 
   -- one input at the home
   home_spoken : (b : Box) → Sized y n b → (i : homes.Input) → Spoken y n b (happened b (homes.step_of b.home i) none)
@@ -248,17 +248,17 @@ OfChange s (event.Had e t) = t ≡ s
 OfChange s event.Closed = Unit {0}
 OfChange s (event.Called c) = ⊥
 OfChange s (event.Found c) = ⊥
-OfChange s (event.Began e t c w n own) = t ≡ s
+OfChange s (event.Began start) = start.section ≡ s
 OfChange s (event.Heard e v) = Unit {0}
-OfChange s (event.Noted to n by v) = Unit {0}
+OfChange s (event.Noted telling) = Unit {0}
 
 begun_of : (x : State) (e : Engine) (s : Section) (c : ℕ) (w : Engine) (r : Result signs.Engine signRefusal.Refusal) → OfChange s (begun_with x e s c w r).1
 begun_of x e s c w (Ok y) = refl
 begun_of x e s c w (Err r) = tt
 
 passed_of : (x : State) (e : Engine) (m : ℕ) (s : Section) (c : ℕ) (h : Holder) → OfChange s (passed_to x e m s c h).1
-passed_of x e m s c holder.Nobody = tt
-passed_of x e m s c (holder.Engine k) = go (eqb k.0 e.0)
+passed_of x e m s c None = tt
+passed_of x e m s c (Some k) = go (eqb k.0 e.0)
   where
     go : (t : Bool) → OfChange s (cond {A = State × Event} t (knowing x known.Had, event.Had e s) (begin_at x e m s c k)).1
     go true = refl
@@ -280,9 +280,9 @@ made_of s (event.Had e t) k m o w = absurd w
 made_of s event.Closed k m o w = absurd w
 made_of s (event.Called c) k m o w = absurd o
 made_of s (event.Found c) k m o w = absurd o
-made_of s (event.Began e t c x n own) k m o w = (c, w ∙ ap (λ (r : Section). mode.Waiting r c) o)
+made_of s (event.Began start) k m o w = (start.change, w ∙ ap (λ (r : Section). mode.Waiting r start.change) o)
 made_of s (event.Heard e v) k m o w = absurd w
-made_of s (event.Noted to n by v) k m o w = absurd w
+made_of s (event.Noted telling) k m o w = absurd w
 
 module _ (y : Yard) (n : ℕ) (s : Section) where
   -- that is had is said of that section alone
@@ -336,9 +336,9 @@ module _ (y : Yard) (n : ℕ) (s : Section) where
   had_of f event.Closed o k = tt
   had_of f (event.Called c) o k = tt
   had_of f (event.Found c) o k = tt
-  had_of f (event.Began e t c w m own) o k = tt
+  had_of f (event.Began start) o k = tt
   had_of f (event.Heard e v) o k = tt
-  had_of f (event.Noted to m by v) o k = tt
+  had_of f (event.Noted telling) o k = tt
 
   module _ (h : Holder) (c : ℕ) (b : Box) where
     record Round (p : Box × Log) : Type 0 where
@@ -415,10 +415,10 @@ module _ (y : Yard) (n : ℕ) (b : Box) (z : Sized y n b) where
       (λ _. turned_away)
 
   wait_sent_lem : (e : Engine) (s : Section) (count change : ℕ) (h : Holder) → Spoken y n b (wait_sent b e s count change h none)
-  wait_sent_lem e s count change holder.Nobody = still_spoken none tt
-  wait_sent_lem e s count change (holder.Engine j) =
+  wait_sent_lem e s count change None = still_spoken none tt
+  wait_sent_lem e s count change (Some j) =
       cond_both (eqb (home_of b.home.yard j).0 b.home.number.0) _ _ (Spoken y n b)
-      (λ _. home_spoken y n b z (homes.waits e s count)) (λ _. still_spoken _ (sent_all Here plain none (home_of b.home.yard j) (message.Waits e s count change) tt))
+      (λ _. home_spoken y n b z (homes.waits e s count)) (λ _. still_spoken _ (sent_all Here plain none (home_of b.home.yard j) (message.Waits (record { engine = e; section = s; count = count; change = change })) tt))
 
   waits_spoken : (from : BoxNumber) (e : Engine) (s : Section) (count change : ℕ) → Spoken y n b (wait_at_box b from e s count change none)
   waits_spoken from e s count change =
@@ -431,13 +431,13 @@ module _ (y : Yard) (n : ℕ) (b : Box) (z : Sized y n b) where
 
   pub received_spoken : (from : BoxNumber) (m : Message) → Spoken y n b (received_of b from m none)
   received_spoken from (message.Call c) = called_spoken from c
-  received_spoken from (message.Answer e k r h c) = home_spoken y n b z (homes.answer from e k r h c)
-  received_spoken from (message.Change s h c) =
-      cond_both (eqb from.0 s.keeper.0) _ _ (Spoken y n b) (λ _. changes-spoken y n s h c b z) (λ _. turned_away)
+  received_spoken from (message.Answer e k told) = home_spoken y n b z (homes.answer from e k told.reply told.holder told.change)
+  received_spoken from (message.Change news) =
+      cond_both (eqb from.0 news.section.keeper.0) _ _ (Spoken y n b) (λ _. changes-spoken y n news.section news.holder news.change b z) (λ _. turned_away)
   received_spoken from (message.WhichChange e s) =
-      cond_both (for_us b from e s) _ _ (Spoken y n b) (λ _. still_spoken _ (sent_all Here plain none from (message.Change s (holder_of (holder_at b.keeper.table s.place)) (change_number_at b.keeper.table s.place)) tt)) (λ _. turned_away)
-  received_spoken from (message.Sign t k by v) = home_spoken y n b z (homes.sign from t k by v)
-  received_spoken from (message.Waits e s k c) = waits_spoken from e s k c
+      cond_both (for_us b from e s) _ _ (Spoken y n b) (λ _. still_spoken _ (sent_all Here plain none from (message.Change (record { section = s; holder = holder_of (holder_at b.keeper.table s.place); change = change_number_at b.keeper.table s.place })) tt)) (λ _. turned_away)
+  received_spoken from (message.Sign telling) = home_spoken y n b z (homes.sign from telling.to telling.count telling.by telling.sign)
+  received_spoken from (message.Waits waiting) = waits_spoken from waiting.engine waiting.section waiting.count waiting.change
 
   pub handled_spoken : (i : Input) → Spoken y n b (handle_of b i none)
   handled_spoken (input.Take e s) = home_spoken y n b z (homes.take e s)

@@ -1,4 +1,5 @@
 -- Every world that steps lead to is in shape: each box, its file, and every message ever sent. By induction on the run.
+use Rattle.std.specs.Prelude.{None}
 use Rattle.std.proofs.Common.{◌≡◌, ℕ, zero, suc, ◌-◌, ◌<◌, Bool, true, false, ltb, leb, List, [], ◌∷◌, ◌++◌, length, get_or, take, drop, set, None, Ok, Option, Result, sym, refl, ap, ◌∙◌, subst, inl, inr, arith, length-set}
 use Rattle.std.proofs.lemmas.List.{append_assoc, append-nil, get_or_append_left, get_or_past, get_or_push, get_or-set_other, get_or-set_same, length-drop, length_push, take-append-drop}
 use Rattle.std.proofs.lemmas.Bool.{and_parts, cases_eq, cases_lt, cond_both, ltb-true}
@@ -21,7 +22,7 @@ use Rattle.journal.specs.declared.output.Output.TheVariants as output
 use Rattle.boxes.specs.declared.signal_box.Input.{Input}
 use Rattle.boxes.specs.declared.signal_box.Input.TheVariants as input
 use Rattle.boxes.specs.Log.{Log, none}
-use Rattle.boxes.specs.Emit.{home_of}
+use Rattle.messages.specs.Homes.{home_of}
 use Rattle.boxes.specs.Model.{State, fresh}
 use Rattle.boxes.specs.Handle.{decoded_of, delivered_of, handle_of, received_of}
 use Rattle.boxes.specs.Opening.{open_from}

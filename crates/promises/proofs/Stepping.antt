@@ -17,7 +17,7 @@ use Rattle.engine_state.specs.declared.state.Mode.{Mode}
 use Rattle.engine_state.specs.declared.state.Mode.TheVariants as mode
 use Rattle.boxes.specs.declared.signal_box.Input.{Input}
 use Rattle.boxes.specs.declared.signal_box.Input.TheVariants as input
-use Rattle.boxes.specs.Emit.{home_of}
+use Rattle.messages.specs.Homes.{home_of}
 use Rattle.boxes.specs.Handle.{delivered_of, handle_of, reminders_of}
 use Rattle.boxes.specs.Log.{Log, none}
 use Rattle.boxes.specs.Model.{State}

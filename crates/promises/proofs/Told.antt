@@ -9,7 +9,7 @@ use Rattle.messages.specs.declared.yard.Yard.{Yard}
 use Rattle.journal.specs.declared.output.Output.{Output}
 use Rattle.journal.specs.declared.output.Output.TheVariants as output
 use Rattle.boxes.specs.declared.signal_box.Input.TheVariants as input
-use Rattle.boxes.specs.Emit.{home_of}
+use Rattle.messages.specs.Homes.{home_of}
 use Rattle.world.specs.declared.step.Step.{Step}
 use Rattle.world.specs.declared.step.Step.TheVariants as step
 use Rattle.world.specs.Station.{Restarts, Station, delivered_at, handled_at}

@@ -1,10 +1,10 @@
 -- Each step makes at most one call to the sections of one box: whoever stood before another does so still, since it can't be overtaken.
+use Rattle.std.specs.Prelude.{Some}
 use Rattle.std.proofs.Common.{◌≡◌, ℕ, true, false, not, ◌&&◌, eqb, ◌⊎◌, List, [], ◌∷◌, ◌++◌, sym, refl, ap, ◌∙◌, subst, inl, inr}
 use Rattle.std.proofs.lemmas.Bool.{and_from, and_parts, both_ways, eq-eqb, eqb-true, not-true, or_cases, or_left, or_right}
 use Rattle.messages.specs.declared.message.Act.{Act}
 use Rattle.messages.specs.declared.message.Act.TheVariants as act
 use Rattle.messages.specs.declared.message.Call.{Call}
-use Rattle.sections.specs.declared.Holder.TheVariants as has
 use Rattle.sections.specs.Table.{Table, free_outcome, give_up_outcome, holder_at, is_in, queue_at, take_outcome}
 use Rattle.sections.specs.Sound.{once}
 use Rattle.sections.specs.Promise.{FirstServed, InTurn, ahead}
@@ -129,5 +129,5 @@ still_before t u place call s i j before here there =
       | inr r ↦ absurd (one_way i j (queue_at t place) twice a ((call_fair t u call).0 place j i (ahead_in i j (queue_at t place) a).0 r))
     ]
 
-pub next_was_first : (t u : Table) (place : ℕ) → OneCall t u → (i j : ℕ) → holder_at t place ≡ has.Engine i → holder_at u place ≡ has.Engine j → (i ≡ j → ⊥) → (rest : List ℕ) × (queue_at t place ≡ j ∷ rest)
+pub next_was_first : (t u : Table) (place : ℕ) → OneCall t u → (i j : ℕ) → holder_at t place ≡ Some i → holder_at u place ≡ Some j → (i ≡ j → ⊥) → (rest : List ℕ) × (queue_at t place ≡ j ∷ rest)
 next_was_first t u place call i j p q ne = (queue_at u place, (call_fair t u call).1 place i j p q ne)

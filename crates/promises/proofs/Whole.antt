@@ -17,7 +17,7 @@ use Rattle.messages.specs.Table.{bytes_of}
 use Rattle.journal.specs.declared.output.Output.{Output}
 use Rattle.journal.specs.declared.output.Output.TheVariants as output
 use Rattle.boxes.specs.declared.signal_box.Input.TheVariants as input
-use Rattle.boxes.specs.Emit.{home_of}
+use Rattle.messages.specs.Homes.{home_of}
 use Rattle.boxes.specs.Handle.{handle_of, delivered_of, reminder_for, reminders_of}
 use Rattle.boxes.specs.Keeping.{refused}
 use Rattle.boxes.specs.Log.{Log, each, none}
@@ -108,11 +108,11 @@ all_meant y z n bs u (o ∷ os) h = (meant_output y z n bs u o h.0, all_meant y 
 -- a call in range is to a box of the yard
 to_a_box : (y : Yard) (m : Message) → MessageIn y m → ToABox y m
 to_a_box y (message.Call c) h = h.1.0
-to_a_box y (message.Answer e n r k c) h = tt
-to_a_box y (message.Change s k c) h = tt
+to_a_box y (message.Answer e n answer) h = tt
+to_a_box y (message.Change news) h = tt
 to_a_box y (message.WhichChange e s) h = tt
-to_a_box y (message.Sign t n b s) h = tt
-to_a_box y (message.Waits e s n c) h = tt
+to_a_box y (message.Sign telling) h = tt
+to_a_box y (message.Waits waiting) h = tt
 
 sent_stays : (y : Yard) (bs cs : Boxes) (z u : model.Yard) → Stays y bs z cs u → (es : List Envelope) → AllSentTrue y bs z es → AllSentTrue y cs u es
 sent_stays y bs cs z u s [] h = tt

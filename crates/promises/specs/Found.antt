@@ -5,9 +5,7 @@ use Rattle.messages.specs.declared.yard.Engine.{Engine}
 use Rattle.messages.specs.declared.message.Message.TheVariants as message
 use Rattle.messages.specs.Table.{bytes_of}
 use Rattle.journal.specs.declared.output.Output.TheVariants as output
-use Rattle.sections.specs.declared.Holder.TheVariants as has
 use Rattle.engine_state.specs.declared.state.Wait.{Wait}
-use Rattle.home.specs.declared.home.Note.TheVariants as note
 use Rattle.home.specs.Queries.{note_at, wait_at}
 use Rattle.world.specs.declared.step.Step.{Step}
 use Rattle.world.specs.declared.step.Step.TheVariants as step
@@ -32,8 +30,8 @@ AlwaysFound = (w : World) (ring : List ℕ) → Reached w → Ring w ring → ((
 
 -- the home of i knows for whom it waits, and the home of that one knows that i waits
 abbrev pub Noted : World → ℕ → ℕ → Type 0
-Noted w i j = (x : Wait) × (wait_at (home_in w (record { 0 = i })) (record { 0 = i }) ≡ Some x) × (x.whom.0 ≡ j) × (holder_in w x.section ≡ has.Engine j)
-    × (note_at (home_in w (record { 0 = j })) (record { 0 = i }) ≡ note.Waits x.section x.count)
+Noted w i j = (x : Wait) × (wait_at (home_in w (record { 0 = i })) (record { 0 = i }) ≡ Some x) × (x.whom.0 ≡ j) × (holder_in w x.section ≡ Some j)
+    × (note_at (home_in w (record { 0 = j })) (record { 0 = i }) ≡ Some (record { section = x.section; count = x.count }))
 
 abbrev pub NotedChain : World → ℕ → List ℕ → ℕ → Type 0
 NotedChain w i [] z = Noted w i z
@@ -54,7 +52,7 @@ pub data ToldOn (sign : ℕ) : World → ℕ → List ℕ → List Taken → Wor
   between : {w u v : World} {i : ℕ} {is : List ℕ} {s : Step} {a : Answer} {more : List Taken} → Makes w s (u, a) → ToldOn sign u i is more v
       → ToldOn sign w i is (record { step = s; answer = a } ∷ more) v
   told : {w u v : World} {i j m : ℕ} {js : List ℕ} {a : Answer} {more : List Taken} → Makes w (step.Deliver m) (u, a) → is_sent w m ≡ true
-      → (message_at w m).bytes ≡ bytes_of (message.Sign (record { 0 = j }) (engine_in w (record { 0 = j })).signs.count (record { 0 = i }) sign)
+      → (message_at w m).bytes ≡ bytes_of (message.Sign (record { to = (record { 0 = j }); count = (engine_in w (record { 0 = j })).signs.count; by = (record { 0 = i }); sign = sign }))
       → ToldOn sign u j js more v → ToldOn sign w i (j ∷ js) (record { step = step.Deliver m; answer = a } ∷ more) v
 
 -- the ring backwards: whoever waits for one comes after it

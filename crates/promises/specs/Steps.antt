@@ -1,5 +1,5 @@
 -- WHAT IS PROMISED OF EACH STEP of every world that steps lead to: turns, stops, cut and doubled messages, what is turned away. Assumes nothing.
-use Rattle.std.specs.Prelude.{◌≡◌, ℕ, true, ◌⊎◌, List, [], ◌∷◌, ◌++◌, length, Ok, Err, ◌≢◌}
+use Rattle.std.specs.Prelude.{◌≡◌, ℕ, true, ◌⊎◌, List, [], ◌∷◌, ◌++◌, length, Ok, Err, ◌≢◌, Some}
 use Rattle.messages.specs.declared.yard.BoxNumber.{BoxNumber}
 use Rattle.messages.specs.declared.yard.Engine.{Engine}
 use Rattle.messages.specs.declared.yard.Section.{Section}
@@ -9,7 +9,6 @@ use Rattle.messages.specs.declared.message.Refusal.TheVariants as refusal
 use Rattle.messages.specs.Table.{bytes_of}
 use Rattle.journal.specs.declared.output.Output.{Output}
 use Rattle.journal.specs.declared.output.Output.TheVariants as output
-use Rattle.sections.specs.declared.Holder.TheVariants as has
 use Rattle.box_laws.specs.Away.{IsReport}
 use Rattle.world.specs.declared.step.Step.{Step}
 use Rattle.world.specs.declared.step.Step.TheVariants as step
@@ -23,7 +22,7 @@ Before i j queue = (front rest : List ℕ) × (queue ≡ front ++ i ∷ rest) ×
 -- Who has a section after another was first of its queue; and who came later never is before.
 abbrev pub AlwaysInTurn : Type 0
 AlwaysInTurn = (w u : World) (s : Step) (a : Answer) (place : Section) → Reached w → Makes w s (u, a)
-    → ((i j : ℕ) → holder_in w place ≡ has.Engine i → holder_in u place ≡ has.Engine j → (i ≢ j) → (rest : List ℕ) × (queue_in w place ≡ j ∷ rest))
+    → ((i j : ℕ) → holder_in w place ≡ Some i → holder_in u place ≡ Some j → (i ≢ j) → (rest : List ℕ) × (queue_in w place ≡ j ∷ rest))
     × ((i j : ℕ) → Before i j (queue_in w place) → OneOf i (queue_in u place) → OneOf j (queue_in u place) → Before i j (queue_in u place))
 
 -- a box has the same stored as before, and nothing was sent: holders, queues, change numbers, last calls and answers; signs, counts, modes and last numbers; its file

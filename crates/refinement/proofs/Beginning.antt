@@ -7,7 +7,7 @@ use Rattle.messages.specs.declared.yard.Section.{Section}
 use Rattle.messages.specs.declared.yard.Yard as sizes
 use Rattle.messages.specs.Range.{SectionIn}
 use Rattle.signs.specs.declared.Engine as signs
-use Rattle.signs.specs.declared.Refusal as signRefusal
+use Rattle.signs.specs.declared.Refusal as sign_refusal
 use Rattle.signs.specs.Signs.{next_own, out_of_range, has_room}
 use Rattle.signs.proofs.Lowest.{own_is_lowest}
 use Rattle.engine_state.specs.declared.state.Event.{Event}
@@ -81,7 +81,7 @@ module _ {y : sizes.Yard} {last : ℕ → LastCall} {x : State} {z : model.Yard}
   -- it begins, with any higher sign of its own
   begin_by :
       (s : Section) (m : ℕ) (j u : ℕ) → MayBegin y last x z e s m j → j < y.engines → x.signs.shown < u → u % y.engines ≡ e →
-      OwnStep y last z e x (begun x s m (engine j) (x.signs.count + 1) u, event.Began (engine e) s m (engine j) (x.signs.count + 1) u)
+      OwnStep y last z e x (begun x s m (engine j) (x.signs.count + 1) u, event.Began (record { engine = engine e; section = s; change = m; holder = engine j; count = x.signs.count + 1; own = u }))
   begin_by s m j u g r above leaves =
       record {
         acts = begins e (number_of s) j m u ∷ [];
@@ -133,5 +133,5 @@ module _ {y : sizes.Yard} {last : ℕ → LastCall} {x : State} {z : model.Yard}
       u : ℕ
       u = next_own x.signs.shown e y.engines
 
-      Turns : Result signs.Engine signRefusal.Refusal → Type 0
+      Turns : Result signs.Engine sign_refusal.Refusal → Type 0
       Turns r = OwnStep y last z e x (begun_with x (engine e) s m (engine j) r)

@@ -1,11 +1,11 @@
 -- A change heard engine by engine is a run of the model, and tells nobody to give back.
+use Rattle.std.specs.Prelude.{None, Some}
 use Rattle.std.proofs.Common.{◌≡◌, ℕ, zero, suc, ◌<◌, ◌≤◌, Bool, true, false, cond, eqb, Ok, Err, Result}
 use Rattle.messages.specs.declared.yard.BoxNumber.{BoxNumber}
 use Rattle.messages.specs.declared.yard.Engine.{Engine}
 use Rattle.messages.specs.declared.yard.Section.{Section}
 use Rattle.messages.specs.declared.yard.Yard as sizes
-use Rattle.messages.specs.declared.message.Holder.{Holder}
-use Rattle.messages.specs.declared.message.Holder.TheVariants as holder
+use Rattle.messages.specs.Holder.{Holder}
 use Rattle.messages.specs.declared.message.Refusal.TheVariants as refusal
 use Rattle.messages.specs.Range.{HolderIn}
 use Rattle.signs.specs.declared.Engine as signs
@@ -46,8 +46,8 @@ passed_quiet x e m s c k true = tt
 passed_quiet x e m s c k false = begun_quiet x e s c k (begin_of x.signs e.0 m k.0)
 
 to_quiet : (x : State) (e : Engine) (m : ℕ) (s : Section) (c : ℕ) (h : Holder) → Quiet (passed_to x e m s c h).1
-to_quiet x e m s c holder.Nobody = tt
-to_quiet x e m s c (holder.Engine k) = passed_quiet x e m s c k (eqb k.0 e.0)
+to_quiet x e m s c None = tt
+to_quiet x e m s c (Some k) = passed_quiet x e m s c k (eqb k.0 e.0)
 
 later_quiet : (x : State) (e : Engine) (m : ℕ) (s : Section) (h : Holder) (c : ℕ) (t : Bool) → Quiet (cond {A = State × Event} t (passed_to x e m s c h) (x, event.PassedOver)).1
 later_quiet x e m s h c true = to_quiet x e m s c h

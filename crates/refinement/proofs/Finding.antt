@@ -1,4 +1,5 @@
 -- A sign heard from whom an engine waits for is shown, or found to be its own: then it gives up what it waits for, in a ring, where it is queued.
+use Rattle.std.specs.Prelude.{Some}
 use Rattle.std.proofs.Common.{◌≡◌, ℕ, ◌+◌, ◌^◌, ◌<◌, ◌≤◌, eqb, ltb, List, [], ◌∷◌, length, get_or, set, Option, sym, refl, ap, ◌∙◌, inl, inr, arith, length-set, get_or-set_other, get_or-set_same}
 use Rattle.std.proofs.lemmas.Bool.{cond_both, cond-true, and_from, eq-eqb, ltb-true, lt-ltb, cases_eq}
 use Rattle.messages.specs.declared.yard.BoxNumber.{BoxNumber}
@@ -8,7 +9,6 @@ use Rattle.messages.specs.declared.message.Act.TheVariants as act
 use Rattle.messages.specs.declared.message.Call.{Call}
 use Rattle.messages.specs.declared.message.Refusal.TheVariants as refusal
 use Rattle.messages.specs.Range.{SectionIn}
-use Rattle.signs.specs.declared.Wait.TheVariants.{For}
 use Rattle.engine_state.specs.declared.state.Event.TheVariants as event
 use Rattle.engine_state.specs.declared.state.Known.TheVariants as known
 use Rattle.engine_state.specs.declared.state.Mode.TheVariants as mode
@@ -72,7 +72,7 @@ leaving≢waiting p = let z : ◌≡◌ {A = ℕ} 0 1 = cc in omega arith
 
 module _ {y : sizes.Yard} {last : ℕ → LastCall} {x : State} {z : model.Yard} {e : ℕ} (h : EngineAs y last x z e) (l : e < y.engines) (reach : Reach y.engines z) where
   -- a higher sign, from whom it waits for, by this count: it is shown
-  pub own_hears : (t : Section) (j m v : ℕ) → x.known ≡ known.Pending → x.stored.mode ≡ mode.Waiting t m → x.signs.wait ≡ For j → Told z e x.signs.count j v → x.signs.shown < v →
+  pub own_hears : (t : Section) (j m v : ℕ) → x.known ≡ known.Pending → x.stored.mode ≡ mode.Waiting t m → x.signs.wait ≡ Some j → Told z e x.signs.count j v → x.signs.shown < v →
       OwnStep y last z e x (heard x v, event.Heard (engine e) v)
   own_hears t j m v pending is whom told above =
       record {
@@ -127,7 +127,7 @@ module _ {y : sizes.Yard} {last : ℕ → LastCall} {x : State} {z : model.Yard}
 
   -- it gives up what it waits for, with the next number
   gives_up :
-      (t : Section) (j m n : ℕ) → x.stored.mode ≡ mode.Waiting t m → x.signs.wait ≡ For j → Finds z e j (number_of t) → t.keeper.0 < 16 → n ≡ used_by x t.keeper.0 + 1 →
+      (t : Section) (j m n : ℕ) → x.stored.mode ≡ mode.Waiting t m → x.signs.wait ≡ Some j → Finds z e j (number_of t) → t.keeper.0 < 16 → n ≡ used_by x t.keeper.0 + 1 →
       OwnStep y last z e x (made x (record { act = act.GiveUp; engine = engine e; section = t; number = n }), event.Found (record { act = act.GiveUp; engine = engine e; section = t; number = n }))
   gives_up t j m n is whom f o next =
       record {
@@ -186,7 +186,7 @@ module _ {y : sizes.Yard} {last : ℕ → LastCall} {x : State} {z : model.Yard}
       )
 
   -- it finds, and gives up while there is a number left
-  pub own_finds : (t : Section) (j m : ℕ) → x.stored.mode ≡ mode.Waiting t m → x.signs.wait ≡ For j → Finds z e j (number_of t) → OwnStep y last z e x (found_at x (engine e) t)
+  pub own_finds : (t : Section) (j m : ℕ) → x.stored.mode ≡ mode.Waiting t m → x.signs.wait ≡ Some j → Finds z e j (number_of t) → OwnStep y last z e x (found_at x (engine e) t)
   own_finds t j m is whom f =
       cond_both (ltb t.keeper.0 16) _ _ Turns
       (λ o.

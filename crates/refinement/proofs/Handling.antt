@@ -78,9 +78,9 @@ Quiet (event.Had e s) = Unit {0}
 Quiet event.Closed = Unit {0}
 Quiet (event.Called c) = Unit {0}
 Quiet (event.Found c) = ⊥
-Quiet (event.Began e s c w n o) = Unit {0}
+Quiet (event.Began start) = Unit {0}
 Quiet (event.Heard e s) = Unit {0}
-Quiet (event.Noted t n b s) = Unit {0}
+Quiet (event.Noted telling) = Unit {0}
 
 pub quiet_based : (y : sizes.Yard) (z u : model.Yard) → u.section ≡ z.section → (x : ℕ → State) (v : model.Yard) (e : Event) → Quiet e → EventTrue y u x v e → EventTrue y z x v e
 quiet_based y z u q x v event.PassedOver k h = h
@@ -90,9 +90,9 @@ quiet_based y z u q x v (event.Had e s) k h = rw q at h
 quiet_based y z u q x v event.Closed k h = h
 quiet_based y z u q x v (event.Called c) k h = h
 quiet_based y z u q x v (event.Found c) k h = elim k [ ]
-quiet_based y z u q x v (event.Began e s c w n o) k h = h
+quiet_based y z u q x v (event.Began start) k h = h
 quiet_based y z u q x v (event.Heard e s) k h = h
-quiet_based y z u q x v (event.Noted t n b s) k h = h
+quiet_based y z u q x v (event.Noted telling) k h = h
 
 -- an input that has been handled: a run of the model, and all that was and is said is true
 pub record Handled (y : sizes.Yard) (bs : Boxes) (z : model.Yard) (n : ℕ) (p : Box × Log) : Type 0 where

@@ -1,4 +1,5 @@
 -- What an engine's home hears is a run of the model: an answer is the kept one to the open call, and means what it says; a change and a sign are of the wait.
+use Rattle.std.specs.Prelude.{None, Some}
 use Rattle.std.proofs.Common.{◌≡◌, ℕ, ◌<◌, ◌≤◌, Bool, true, false, cond, ◌&&◌, eqb, ltb, ◌⊎◌, get_or, Option, Result, sym, refl, ap, ◌∙◌, inl, inr, arith}
 use Rattle.std.proofs.lemmas.Bool.{cond_both, and_parts, eqb-true, eqb-false, ltb-true, cases_eq}
 use Rattle.messages.specs.declared.yard.BoxNumber.{BoxNumber}
@@ -8,8 +9,7 @@ use Rattle.messages.specs.declared.yard.Yard as sizes
 use Rattle.messages.specs.declared.message.Act.{Act}
 use Rattle.messages.specs.declared.message.Act.TheVariants as act
 use Rattle.messages.specs.declared.message.Call.{Call}
-use Rattle.messages.specs.declared.message.Holder.{Holder}
-use Rattle.messages.specs.declared.message.Holder.TheVariants as holder
+use Rattle.messages.specs.Holder.{Holder}
 use Rattle.messages.specs.declared.message.Refusal.{Refusal}
 use Rattle.messages.specs.declared.message.Refusal.TheVariants as refusal
 use Rattle.messages.specs.declared.message.Reply.{Reply}
@@ -17,9 +17,8 @@ use Rattle.messages.specs.declared.message.Reply.TheVariants as reply
 use Rattle.messages.specs.Range.{HolderIn}
 use Rattle.signs.specs.declared.Engine as signs
 use Rattle.signs.specs.declared.Heard as spoken
-use Rattle.signs.specs.declared.Refusal as signRefusal
-use Rattle.signs.specs.declared.Wait.{Wait}
-use Rattle.signs.specs.declared.Wait.TheVariants.{Nobody, For}
+use Rattle.signs.specs.declared.Refusal as sign_refusal
+use Rattle.signs.specs.Signs.{Wait}
 use Rattle.signs.specs.Signs.{is_for, waits_by, hear_of, find_of, listen_of}
 use Rattle.engine_state.specs.declared.state.Event.{Event}
 use Rattle.engine_state.specs.declared.state.Event.TheVariants as event
@@ -32,7 +31,7 @@ use Rattle.engine_state.specs.Places.{same_section}
 use Rattle.engine_state.specs.Calls.{if_pending, call_of_mode, wait_of_mode}
 use Rattle.engine_state.specs.State.{knowing}
 use Rattle.engine_state.specs.Inputs.{is_engine, waits_for, refused_by, answer_to, that_call, answered, answer_at, passed_to, is_later, change_at, listened, heard_waiting, sign_at}
-use Rattle.keeper.specs.declared.Answer.{Answer}
+use Rattle.messages.specs.declared.message.Answer.{Answer}
 use Rattle.keeper.specs.declared.LastCall.{LastCall}
 use Rattle.home.specs.Queries.{engine}
 use Rattle.yard.specs.Yard as model
@@ -59,9 +58,9 @@ answer_means z e last used a s n w (p, inl q) (inr (inr x)) = inr x
 answer_means z e last used a s n w (p, inr q) (inr (inr x)) = inr x
 
 -- an engine that a holder is
-is_engine_lem : (h : Holder) (e : ℕ) → is_engine h (engine e) ≡ true → h ≡ holder.Engine (engine e)
-is_engine_lem holder.Nobody e t = let z : ◌≡◌ {A = ℕ} 0 1 = cc in absurd (omega arith)
-is_engine_lem (holder.Engine f) e t = ap (λ (n : ℕ). holder.Engine (engine n)) (eqb-true f.0 e t)
+is_engine_lem : (h : Holder) (e : ℕ) → is_engine h (engine e) ≡ true → h ≡ Some (engine e)
+is_engine_lem None e t = let z : ◌≡◌ {A = ℕ} 0 1 = cc in absurd (omega arith)
+is_engine_lem (Some f) e t = ap (λ (n : ℕ). Some (engine n)) (eqb-true f.0 e t)
 
 module _ {y : sizes.Yard} {last : ℕ → LastCall} {x : State} {z : model.Yard} {e : ℕ} (h : EngineAs y last x z e) (l : e < y.engines) where
   mode_is : model.mode z e ≡ mode_by x.stored.mode x.signs.wait
@@ -77,8 +76,8 @@ module _ {y : sizes.Yard} {last : ℕ → LastCall} {x : State} {z : model.Yard}
   take_waits :
       (s : Section) (k : ℕ) (w : Holder) (c : ℕ) → x.stored.mode ≡ mode.Called act.Take s k → k ≡ (last s.keeper.0).number → Stands z e (number_of s) w c →
       OwnStep y last z e x (waits_for x (record { act = act.Take; engine = engine e; section = s; number = k }) y.engines c w)
-  take_waits s k holder.Nobody c is even st = own_still h (event.Refused refusal.WrongCall) tt
-  take_waits s k (holder.Engine f) c is even st =
+  take_waits s k None c is even st = own_still h (event.Refused refusal.WrongCall) tt
+  take_waits s k (Some f) c is even st =
       cond_both (eqb f.0 e) _ _ (OwnStep y last z e x)
       (λ t. own_still h (event.Refused refusal.WrongCall) tt)
       (λ t. own_begin h l s c f.0 may)
@@ -106,13 +105,13 @@ module _ {y : sizes.Yard} {last : ℕ → LastCall} {x : State} {z : model.Yard}
   -- a give up is refused: the engine has the section, or is out of its queue
   give_up_refused :
       (s : Section) (k : ℕ) (w : Holder) (t : Bool) (ev : Event) → EventTrue y z (λ i. knowing x (cond t known.Had known.Closed)) z ev → is_engine w (engine e) ≡ t → x.stored.mode ≡ mode.Called act.GiveUp s k → k ≡ (last s.keeper.0).number →
-      (Queued z e (number_of s) → ⊥) × (w ≡ holder.Engine (engine e) → model.holder z (number_of s) ≡ by e) → OwnStep y last z e x (knowing x (cond t known.Had known.Closed), ev)
+      (Queued z e (number_of s) → ⊥) × (w ≡ Some (engine e) → model.holder z (number_of s) ≡ by e) → OwnStep y last z e x (knowing x (cond t known.Had known.Closed), ev)
   give_up_refused s k w true ev tr at is even g = own_known h known.Had ev (rw is (even, g.1 (is_engine_lem w e at))) tr
   give_up_refused s k w false ev tr at is even g = own_known h known.Closed ev (rw is (even, g.0)) tr
 
   refused_by_give_up :
       (s : Section) (k : ℕ) (r : Refusal) (w : Holder) → x.stored.mode ≡ mode.Called act.GiveUp s k → k ≡ (last s.keeper.0).number →
-      (Queued z e (number_of s) → ⊥) × (w ≡ holder.Engine (engine e) → model.holder z (number_of s) ≡ by e) →
+      (Queued z e (number_of s) → ⊥) × (w ≡ Some (engine e) → model.holder z (number_of s) ≡ by e) →
       OwnStep y last z e x (refused_by x (knowing x (cond (is_engine w (engine e)) known.Had known.Closed)) r)
   refused_by_give_up s k refusal.Malformed w is even g = give_up_refused s k w (is_engine w (engine e)) (event.RefusedBy refusal.Malformed) tt refl is even g
   refused_by_give_up s k refusal.WrongCall w is even g = give_up_refused s k w (is_engine w (engine e)) (event.RefusedBy refusal.WrongCall) tt refl is even g
@@ -181,10 +180,10 @@ same_section_lem s t q =
 module _ {y : sizes.Yard} {last : ℕ → LastCall} {x : State} {z : model.Yard} {e : ℕ} (h : EngineAs y last x z e) (l : e < y.engines) (reach : Reach y.engines z) where
   -- the section that it waits for has passed, by a later change
   passed_to_lem :
-      (s : Section) (j m : ℕ) (w : Holder) (c : ℕ) → x.stored.mode ≡ mode.Waiting s m → x.signs.wait ≡ For j → m < c →
+      (s : Section) (j m : ℕ) (w : Holder) (c : ℕ) → x.stored.mode ≡ mode.Waiting s m → x.signs.wait ≡ Some j → m < c →
       (z.section (number_of s)).past c ≡ holder_told w → c ≤ (z.section (number_of s)).change → OwnStep y last z e x (passed_to x (engine e) y.engines s c w)
-  passed_to_lem s j m holder.Nobody c is whom later past until = own_still h event.PassedOver tt
-  passed_to_lem s j m (holder.Engine f) c is whom later past until =
+  passed_to_lem s j m None c is whom later past until = own_still h event.PassedOver tt
+  passed_to_lem s j m (Some f) c is whom later past until =
       cond_both (eqb f.0 e) _ _ (OwnStep y last z e x)
       (λ t.
       let mine : model.holder z (number_of s) ≡ by e =
@@ -216,8 +215,8 @@ module _ {y : sizes.Yard} {last : ℕ → LastCall} {x : State} {z : model.Yard}
   change_open s w c known.Closed m v past until is whom = own_still h event.PassedOver tt
   change_open s w c known.Pending mode.Idle v past until is whom = own_still h event.PassedOver tt
   change_open s w c known.Pending (mode.Called a t n) v past until is whom = own_still h event.PassedOver tt
-  change_open s w c known.Pending (mode.Waiting t m) Nobody past until is whom = own_still h event.PassedOver tt
-  change_open s w c known.Pending (mode.Waiting t m) (For j) past until is whom =
+  change_open s w c known.Pending (mode.Waiting t m) None past until is whom = own_still h event.PassedOver tt
+  change_open s w c known.Pending (mode.Waiting t m) (Some j) past until is whom =
       cond_both (same_section t s && ltb m c) _ _ (OwnStep y last z e x)
       (λ q.
       let p = and_parts (same_section t s) (ltb m c) q in
@@ -233,14 +232,14 @@ unfolding change_at
 own_change {x = x} g l reach s h c past until w = change_open g l reach s h c x.known x.stored.mode x.signs.wait past until refl refl
 
 -- it waits for that one, by that count
-waits_by_lem : (w : Wait) (j k n m : ℕ) → w ≡ For j → (is_for w k && eqb n m) ≡ true → (j ≡ k) × (n ≡ m)
+waits_by_lem : (w : Wait) (j k n m : ℕ) → w ≡ Some j → (is_for w k && eqb n m) ≡ true → (j ≡ k) × (n ≡ m)
 waits_by_lem w j k n m e q =
     let p = and_parts (is_for w k) (eqb n m) q in
     (eqb-true j k (rw e at p.0), eqb-true n m p.1)
 
 module _ {y : sizes.Yard} {last : ℕ → LastCall} {x : State} {z : model.Yard} {e : ℕ} (h : EngineAs y last x z e) (l : e < y.engines) (reach : Reach y.engines z) where
-  module _ (count : ℕ) (teller : Engine) (sign : ℕ) (told : Told z e count teller.0 sign) (t : Section) (m j : ℕ) (pending : x.known ≡ known.Pending) (is : x.stored.mode ≡ mode.Waiting t m) (whom : x.signs.wait ≡ For j) where
-    abbrev Turns : Result (signs.Engine × spoken.Heard) signRefusal.Refusal → Type 0
+  module _ (count : ℕ) (teller : Engine) (sign : ℕ) (told : Told z e count teller.0 sign) (t : Section) (m j : ℕ) (pending : x.known ≡ known.Pending) (is : x.stored.mode ≡ mode.Waiting t m) (whom : x.signs.wait ≡ Some j) where
+    abbrev Turns : Result (signs.Engine × spoken.Heard) sign_refusal.Refusal → Type 0
     Turns r = OwnStep y last z e x (listened x (engine e) t r)
 
     -- what was told is for this wait, and by whom it waits for
@@ -287,8 +286,8 @@ module _ {y : sizes.Yard} {last : ℕ → LastCall} {x : State} {z : model.Yard}
   sign_open count teller sign told known.Closed m v pending is whom = own_still h (event.Refused refusal.Stale) tt
   sign_open count teller sign told known.Pending mode.Idle v pending is whom = own_still h (event.Refused refusal.Stale) tt
   sign_open count teller sign told known.Pending (mode.Called a t n) v pending is whom = own_still h (event.Refused refusal.Stale) tt
-  sign_open count teller sign told known.Pending (mode.Waiting t m) Nobody pending is whom = own_still h (event.Refused refusal.Stale) tt
-  sign_open count teller sign told known.Pending (mode.Waiting t m) (For j) pending is whom = listens count teller sign told t m j pending is whom
+  sign_open count teller sign told known.Pending (mode.Waiting t m) None pending is whom = own_still h (event.Refused refusal.Stale) tt
+  sign_open count teller sign told known.Pending (mode.Waiting t m) (Some j) pending is whom = listens count teller sign told t m j pending is whom
 
 -- a sign is heard
 pub own_sign :

@@ -1,4 +1,5 @@
 -- What one engine does at its home leaves every other engine, every section and every message as they were.
+use Rattle.std.specs.Prelude.{None, Some}
 use Rattle.std.proofs.Common.{◌≡◌, ℕ, ◌+◌, ◌*◌, ◌%◌, ◌<◌, ◌≤◌, Bool, true, false, cond, not, ◌||◌, eqb, ltb, leb, ◌⊎◌, List, [], map, length, get_or, set, Some, None, Ok, Err, Option, Result, sym, refl, ap, ◌∙◌, subst, inl, inr, arith, get_or-set_other, get_or-set_same}
 use mathlib.Core.Path.{fun_ext}
 use Rattle.std.proofs.lemmas.List.{get_or-map}
@@ -8,7 +9,7 @@ use Rattle.messages.specs.declared.yard.Engine.{Engine}
 use Rattle.messages.specs.declared.yard.Section.{Section}
 use Rattle.messages.specs.declared.yard.Yard as sizes
 use Rattle.messages.specs.declared.message.Call.{Call}
-use Rattle.messages.specs.declared.message.Holder.{Holder}
+use Rattle.messages.specs.Holder.{Holder}
 use Rattle.messages.specs.declared.message.Message.{Message}
 use Rattle.messages.specs.declared.message.Message.TheVariants as message
 use Rattle.messages.specs.declared.message.Refusal.{Refusal}
@@ -27,7 +28,7 @@ use Rattle.keeper.specs.declared.LastCall.{LastCall}
 use Rattle.keeper.specs.Model as keeper
 use Rattle.home.specs.declared.home.Home.{Home}
 use Rattle.home.specs.declared.home.Note.{Note}
-use Rattle.home.specs.declared.home.Note.TheVariants as note
+use Rattle.home.specs.Noted.{Noted}
 use Rattle.home.specs.Home.{is_home, is_ours, at, with, made_of}
 use Rattle.home.specs.Queries.{engine, note_at, holder_of}
 use Rattle.home.specs.Inputs.{has_section, with_notes, unless_for, taking, freeing, taken, freed, take_of, free_of, put_in, at_ours, is_older, noted_for, waits_of}
@@ -100,10 +101,10 @@ event_on y z u e x p f (event.Called c) q b t =
     (t.0, t.1, subst (λ (g : State). WasCalled g c) (sym q ∙ ap (λ (k : Engine). f k.0) (sym b.0)) t.2)
 event_on y z u e x p f (event.Found c) q b t =
     (t.0, t.1, subst (λ (g : State). WasCalled g c) (sym q ∙ ap (λ (k : Engine). f k.0) (sym b.0)) t.2, t.3)
-event_on y z u e x p f (event.Began k s change whom count own) q b t =
+event_on y z u e x p f (event.Began start) q b t =
     (t.0, t.1, ap (λ (g : Engine). (f g.0).signs.shown) b.0 ∙ ap (λ (g : State). g.signs.shown) q ∙ t.2)
 event_on y z u e x p f (event.Heard k sign) q b t = (t.0, ap (λ (g : Engine). (f g.0).signs.shown) b.0 ∙ ap (λ (g : State). g.signs.shown) q ∙ t.1)
-event_on y z u e x p f (event.Noted to count teller sign) q b t = t
+event_on y z u e x p f (event.Noted telling) q b t = t
 
 module _ (y : sizes.Yard) (bs : Boxes) (z : model.Yard) (n : ℕ) (h : Home) where
   abbrev after : Boxes
@@ -128,7 +129,7 @@ module _ (y : sizes.Yard) (bs : Boxes) (z : model.Yard) (n : ℕ) (h : Home) whe
       (all : As y bs z) (e : ℕ) (below : e < y.engines) (ours : e % y.boxes ≡ n) (p : State × Event) (o : OwnStep y (λ b. last_at bs b e) z e (at (bs n).home (engine e)) p)
       (became : Became (engine e) (at (bs n).home (engine e)) p.1 p.0) (own : at h (engine e) ≡ p.0)
       (same : (k : ℕ) → (k ≡ e → ⊥) → at h (engine k) ≡ at (bs n).home (engine k))
-      (notes : (k : ℕ) (s : Section) (c : ℕ) → note_at h (engine k) ≡ note.Waits s c → HasBegun z k c (number_of s))
+      (notes : (k : ℕ) (s : Section) (c : ℕ) → note_at h (engine k) ≡ Some (record { section = s; count = c }) → HasBegun z k c (number_of s))
     where
       engine_on : (k : ℕ) → k < y.engines → EngineAs y (λ b. last_at after b k) (state_in y after k) o.now k
       engine_on k l = subst (λ (last : ℕ → LastCall). EngineAs y last (state_in y after k) o.now k) (sym (lasts_same k)) (by-case (cases_eq k e))
@@ -141,11 +142,11 @@ module _ (y : sizes.Yard) (bs : Boxes) (z : model.Yard) (n : ℕ) (h : Home) whe
               subst (λ (x : State). EngineAs y (λ b. last_at bs b k) x o.now k) (sym (state_other e same k ne))
               (engine_same z o.now o.sections y (λ b. last_at bs b k) (state_in y bs k) k (o.others k ne) (all.engines k l))
 
-      notes-on : (b k : ℕ) (s : Section) (c : ℕ) → b < y.boxes → note_at (after b).home (engine k) ≡ note.Waits s c → HasBegun o.now k c (number_of s)
+      notes-on : (b k : ℕ) (s : Section) (c : ℕ) → b < y.boxes → note_at (after b).home (engine k) ≡ Some (record { section = s; count = c }) → HasBegun o.now k c (number_of s)
       notes-on b k s c l q = begun_on o.run (by_box q)
         where
-          by_box : note_at (after b).home (engine k) ≡ note.Waits s c → HasBegun z k c (number_of s)
-          by_box = at_put (λ (x : Box). note_at x.home (engine k) ≡ note.Waits s c → HasBegun z k c (number_of s)) n (with_home (bs n) h) bs b
+          by_box : note_at (after b).home (engine k) ≡ Some (record { section = s; count = c }) → HasBegun z k c (number_of s)
+          by_box = at_put (λ (x : Box). note_at x.home (engine k) ≡ Some (record { section = s; count = c }) → HasBegun z k c (number_of s)) n (with_home (bs n) h) bs b
               (λ i w. notes k s c w) (λ ne w. all.notes b k s c l w)
 
       holds_on : As y after o.now
@@ -165,13 +166,13 @@ module _ (y : sizes.Yard) (bs : Boxes) (z : model.Yard) (n : ℕ) (h : Home) whe
                 subst (λ k. WasCalled (state_in y after k) c) (sym q) (subst (λ (x : State). WasCalled x c) (sym (state_own e ours ∙ own)) (o.calls c l was)))
             | inr ne ↦ subst (λ (x : State). WasCalled x c) (sym (state_other e same c.engine.0 ne)) w
           ]
-      stays_on from (message.Answer k m r g c) l t =
-          subst (λ (s : keeper.State). AnswerStands (keeper.last_of s k.0) m (record { reply = r; holder = g; change = c })) (sym (keepers_same from.0)) t
-      stays_on from (message.Change s g c) l t =
-          subst (λ (f : ℕ → model.Section). ((f (number_of s)).past c ≡ holder_told g) × (c ≤ (f (number_of s)).change)) (sym o.sections) t
+      stays_on from (message.Answer k m answer) l t =
+          subst (λ (s : keeper.State). AnswerStands (keeper.last_of s k.0) m answer) (sym (keepers_same from.0)) t
+      stays_on from (message.Change news) l t =
+          subst (λ (f : ℕ → model.Section). ((f (number_of news.section)).past news.change ≡ holder_told news.holder) × (news.change ≤ (f (number_of news.section)).change)) (sym o.sections) t
       stays_on from (message.WhichChange k s) l t = tt
-      stays_on from (message.Sign t m b s) l w = told_on o.run w
-      stays_on from (message.Waits k s m c) l w = begun_on o.run w
+      stays_on from (message.Sign telling) l w = told_on o.run w
+      stays_on from (message.Waits waiting) l w = begun_on o.run w
 
       -- an engine's own step, put into its home, is a step of the box
       pub lifted : Step y bs z n (h, p.1)
@@ -186,24 +187,24 @@ module _ (y : sizes.Yard) (bs : Boxes) (z : model.Yard) (n : ℕ) (h : Home) whe
             sections = o.sections;
           }
 
-waits≢nothing : {s : Section} {c : ℕ} → note.Nothing ≡ note.Waits s c → ⊥
+waits≢nothing : {s : Section} {c : ℕ} → ◌≡◌ {A = Noted} None (Some (record { section = s; count = c })) → ⊥
 waits≢nothing p = let z : ◌≡◌ {A = ℕ} 0 1 = cc in omega arith
 
 -- a note that is left after a free was there before
-unless_was : (s t : Section) (c : ℕ) (m : Note) → unless_for s m ≡ note.Waits t c → m ≡ note.Waits t c
-unless_was s t c note.Nothing q = q
-unless_was s t c (note.Waits u d) q = kept (same_section u s) q
+unless_was : (s t : Section) (c : ℕ) (m : Noted) → unless_for s m ≡ Some (record { section = t; count = c }) → m ≡ Some (record { section = t; count = c })
+unless_was s t c None q = q
+unless_was s t c (Some seen) q = kept (same_section seen.section s) q
   where
-    kept : (b : Bool) → cond b note.Nothing (note.Waits u d) ≡ note.Waits t c → note.Waits u d ≡ note.Waits t c
+    kept : (b : Bool) → cond b None (Some seen) ≡ Some (record { section = t; count = c }) → Some seen ≡ Some (record { section = t; count = c })
     kept true q = absurd (waits≢nothing q)
     kept false q = q
 
-notes_left : (h : Home) (xs : List Note) (s : Section) (k : ℕ) (t : Section) (c : ℕ) → length xs ≡ 64 →
-    note_at (with_notes h (map (unless_for s) xs)) (engine k) ≡ note.Waits t c → note_at (with_notes h xs) (engine k) ≡ note.Waits t c
+notes_left : (h : Home) (xs : List Noted) (s : Section) (k : ℕ) (t : Section) (c : ℕ) → length xs ≡ 64 →
+    note_at (with_notes h (map (unless_for s) xs)) (engine k) ≡ Some (record { section = t; count = c }) → note_at (with_notes h xs) (engine k) ≡ Some (record { section = t; count = c })
 notes_left h xs s k t c wide = by-test (ltb k 64) refl
   where
-    by-test : (b : Bool) → ltb k 64 ≡ b → cond b (get_or (map (unless_for s) xs) k note.Nothing) note.Nothing ≡ note.Waits t c → cond b (get_or xs k note.Nothing) note.Nothing ≡ note.Waits t c
-    by-test true l q = unless_was s t c (get_or xs k note.Nothing) (sym (get_or-map (unless_for s) xs k note.Nothing note.Nothing (let m = ltb-true k 64 l in omega arith)) ∙ q)
+    by-test : (b : Bool) → ltb k 64 ≡ b → cond b (get_or (map (unless_for s) xs) k None) None ≡ Some (record { section = t; count = c }) → cond b (get_or xs k None) None ≡ Some (record { section = t; count = c })
+    by-test true l q = unless_was s t c (get_or xs k None) (sym (get_or-map (unless_for s) xs k None None (let m = ltb-true k 64 l in omega arith)) ∙ q)
     by-test false l q = q
 
 module _ (y : sizes.Yard) (bs : Boxes) (z : model.Yard) (n : ℕ) (sized : Sized y n (bs n)) (all : As y bs z) (inside : n < y.boxes) where
@@ -289,36 +290,37 @@ module _ (y : sizes.Yard) (bs : Boxes) (z : model.Yard) (n : ℕ) (sized : Sized
           (drop-step e.0 k.0 k.1 (made (at (bs n).home e) c, event.Called c)
           (own_free (engine_in e.0 k.0 k.1) k.0 r s c (section_in s two.0) two.1) (whose, refl) s)
 
-  noted_was : (xs : List Note) (e : ℕ) (s : Section) (count k : ℕ) (t : Section) (c : ℕ) → length xs ≡ 64 → e < 64 → HasBegun z e count (number_of s) →
-      (get_or xs k note.Nothing ≡ note.Waits t c → k < 64 → HasBegun z k c (number_of t)) → get_or (set xs e (note.Waits s count)) k note.Nothing ≡ note.Waits t c → k < 64 → HasBegun z k c (number_of t)
+  noted_was : (xs : List Noted) (e : ℕ) (s : Section) (count k : ℕ) (t : Section) (c : ℕ) → length xs ≡ 64 → e < 64 → HasBegun z e count (number_of s) →
+      (get_or xs k None ≡ Some (record { section = t; count = c }) → k < 64 → HasBegun z k c (number_of t)) → get_or (set xs e (Some (record { section = s; count = count }))) k None ≡ Some (record { section = t; count = c }) → k < 64 → HasBegun z k c (number_of t)
   noted_was xs e s count k t c wide small begun old q below =
       elim (cases_eq k e) [
-        | inl i ↦ (let is : note.Waits s count ≡ note.Waits t c = sym (get_or-set_same xs e (note.Waits s count) note.Nothing (omega arith)) ∙ ap (λ j. get_or (set xs e (note.Waits s count)) j note.Nothing) (sym i) ∙ q in
-            let same : s ≡ t = cc in
-            let counts : count ≡ c = cc in
+        | inl i ↦ (let is : ◌≡◌ {A = Noted} (Some (record { section = s; count = count })) (Some (record { section = t; count = c })) = sym (get_or-set_same xs e (Some (record { section = s; count = count })) None (omega arith)) ∙ ap (λ j. get_or (set xs e (Some (record { section = s; count = count }))) j None) (sym i) ∙ q in
+            let note : ◌≡◌ {A = Note} (record { section = s; count = count }) (record { section = t; count = c }) = cc in
+            let same : s ≡ t = ap (λ (x : Note). x.section) note in
+            let counts : count ≡ c = ap (λ (x : Note). x.count) note in
             rw (i, ← counts) (subst (λ (u : Section). HasBegun z e count (number_of u)) same begun))
-        | inr ne ↦ old (sym (get_or-set_other xs e k (note.Waits s count) note.Nothing ne) ∙ q) below
+        | inr ne ↦ old (sym (get_or-set_other xs e k (Some (record { section = s; count = count })) None ne) ∙ q) below
       ]
 
-  note_read : (h : Home) (k : ℕ) (t : Section) (c : ℕ) → note_at h (engine k) ≡ note.Waits t c → (get_or h.notes k note.Nothing ≡ note.Waits t c) × (k < 64)
+  note_read : (h : Home) (k : ℕ) (t : Section) (c : ℕ) → note_at h (engine k) ≡ Some (record { section = t; count = c }) → (get_or h.notes k None ≡ Some (record { section = t; count = c })) × (k < 64)
   note_read h k t c = by-test (ltb k 64) refl
     where
-      by-test : (b : Bool) → ltb k 64 ≡ b → cond b (get_or h.notes k note.Nothing) note.Nothing ≡ note.Waits t c → (get_or h.notes k note.Nothing ≡ note.Waits t c) × (k < 64)
+      by-test : (b : Bool) → ltb k 64 ≡ b → cond b (get_or h.notes k None) None ≡ Some (record { section = t; count = c }) → (get_or h.notes k None ≡ Some (record { section = t; count = c })) × (k < 64)
       by-test true l q = (q, ltb-true k 64 l)
       by-test false l q = absurd (waits≢nothing q)
 
-  read_note : (h : Home) (k : ℕ) (t : Section) (c : ℕ) → get_or h.notes k note.Nothing ≡ note.Waits t c → k < 64 → note_at h (engine k) ≡ note.Waits t c
-  read_note h k t c q l = cond-true (ltb k 64) (get_or h.notes k note.Nothing) note.Nothing (lt-ltb k 64 l) ∙ q
+  read_note : (h : Home) (k : ℕ) (t : Section) (c : ℕ) → get_or h.notes k None ≡ Some (record { section = t; count = c }) → k < 64 → note_at h (engine k) ≡ Some (record { section = t; count = c })
+  read_note h k t c q l = cond-true (ltb k 64) (get_or h.notes k None) None (lt-ltb k 64 l) ∙ q
 
   -- a waiter is noted: one of ours has what it waits for, and shows what is told
   noted_home :
       (e : Engine) (s : Section) (count : ℕ) (teller : Engine) → e.0 < 64 → is_ours (bs n).home teller ≡ true → HasBegun z e.0 count (number_of s) → holds_of (at (bs n).home teller) s ≡ true →
-      Step y bs z n (with_notes (bs n).home (set (bs n).home.notes e.0 (note.Waits s count)), event.Noted e count teller (at (bs n).home teller).signs.shown)
+      Step y bs z n (with_notes (bs n).home (set (bs n).home.notes e.0 (Some (record { section = s; count = count }))), event.Noted (record { to = e; count = count; by = teller; sign = (at (bs n).home teller).signs.shown }))
   noted_home e s count teller small ours begun has =
       let k = ours_in teller ours in
       let g = engine_in teller.0 k.0 k.1 in
-      lifted y bs z n (with_notes (bs n).home (set (bs n).home.notes e.0 (note.Waits s count))) all teller.0 k.0 k.1
-      (at (bs n).home teller, event.Noted e count teller (at (bs n).home teller).signs.shown)
+      lifted y bs z n (with_notes (bs n).home (set (bs n).home.notes e.0 (Some (record { section = s; count = count })))) all teller.0 k.0 k.1
+      (at (bs n).home teller, event.Noted (record { to = e; count = count; by = teller; sign = (at (bs n).home teller).signs.shown }))
       (record {
         acts = [];
         now = z;
@@ -330,7 +332,7 @@ module _ (y : sizes.Yard) (bs : Boxes) (z : model.Yard) (n : ℕ) (sized : Sized
         event = (s, begun, holds g s has, ap (λ (m : model.Engine). m.shown) g.same);
       })
       refl refl (λ j ne. refl)
-      (λ j t c w. let r = note_read (with_notes (bs n).home (set (bs n).home.notes e.0 (note.Waits s count))) j t c w in
+      (λ j t c w. let r = note_read (with_notes (bs n).home (set (bs n).home.notes e.0 (Some (record { section = s; count = count })))) j t c w in
       noted_was (bs n).home.notes e.0 s count j t c sized.notes small begun (λ q l. all.notes n j t c inside (read_note (bs n).home j t c q l)) r.0 r.1)
 
   waits_home : (e : Engine) (s : Section) (count : ℕ) → HasBegun z e.0 count (number_of s) → Step y bs z n (waits_of (bs n).home e s count)
@@ -340,14 +342,14 @@ module _ (y : sizes.Yard) (bs : Boxes) (z : model.Yard) (n : ℕ) (sized : Sized
       h = (bs n).home
 
       yes : Engine → Home × Event
-      yes teller = (with_notes h (set h.notes e.0 (note.Waits s count)), event.Noted e count teller (at h teller).signs.shown)
+      yes teller = (with_notes h (set h.notes e.0 (Some (record { section = s; count = count }))), event.Noted (record { to = e; count = count; by = teller; sign = (at h teller).signs.shown }))
 
       held_by :
           (teller : Engine) → (leb h.yard.engines e.0 || not (has_section h s)) ≡ false → holder_of h s ≡ Some teller → (leb 64 e.0 || is_older count (note_at h e)) ≡ false →
           is_ours h teller ≡ true → holds_of (at h teller) s ≡ true
       held_by teller a b c d =
           sym (cond-true (is_ours h teller) (holds_of (at h teller) s) false d) ∙
-          (told_of_what_is_held h e s count e count teller (at h teller).signs.shown
+          (told_of_what_is_held h e s count (record { to = e; count = count; by = teller; sign = (at h teller).signs.shown })
           (ap (λ (t : Bool). (cond t (h, event.Refused refusal.Malformed) (noted_for h e s count (holder_of h s))).1) a ∙ ap (λ (o : Option Engine). (noted_for h e s count o).1) b ∙
           ap (λ (t : Bool). (cond t (h, event.PassedOver) (cond (is_ours h teller) (yes teller) (h, event.PassedOver))).1) c ∙ ap (λ (t : Bool). (cond t (yes teller) (h, event.PassedOver)).1) d)).0
 

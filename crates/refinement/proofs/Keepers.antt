@@ -1,4 +1,5 @@
 -- A call at a section's box is at most one act of the model: the box does what the engine's last call asks for, or nothing.
+use Rattle.std.specs.Prelude.{None, Some}
 use Rattle.std.proofs.Common.{◌≡◌, ℕ, ◌+◌, ◌*◌, ◌%◌, ◌<◌, ◌≤◌, true, false, eqb, ltb, ◌⊎◌, List, [], ◌∷◌, ◌++◌, None, Ok, Err, sym, refl, ap, ◌∙◌, subst, inl, inr, arith}
 use mathlib.Core.Path.{fun_ext}
 use mathlib.Core.List.Memᴰ
@@ -11,22 +12,20 @@ use Rattle.messages.specs.declared.yard.Yard as sizes
 use Rattle.messages.specs.declared.message.Act.{Act as Kind}
 use Rattle.messages.specs.declared.message.Act.TheVariants as act
 use Rattle.messages.specs.declared.message.Call.{Call}
-use Rattle.messages.specs.declared.message.Holder.{Holder}
-use Rattle.messages.specs.declared.message.Holder.TheVariants as holder
+use Rattle.messages.specs.Holder.{Holder}
 use Rattle.messages.specs.declared.message.Message.{Message}
 use Rattle.messages.specs.declared.message.Message.TheVariants as message
 use Rattle.messages.specs.declared.message.Refusal.TheVariants as refusal
 use Rattle.messages.specs.Range.{CallIn}
 use Rattle.sections.specs.declared.Done.TheVariants as did
-use Rattle.sections.specs.declared.Holder.{Holder as SectionHolder}
-use Rattle.sections.specs.declared.Holder.TheVariants as has
+use Rattle.sections.specs.Table.{Holder as SectionHolder}
 use Rattle.sections.specs.declared.Refusal.TheVariants as because
 use Rattle.sections.specs.Table.{Table, Outcome, place_at, holder_at, change_number_at, is_in, waits, known, changeable, first_of, rest_of, pass_on, refusal_of, settle, take_by, free_by, unless}
 use Rattle.sections.specs.Table as table
 use Rattle.sections.proofs.Tables.{put_here, put_elsewhere, nowhere_waits}
 use Rattle.engine_state.specs.declared.state.Mode.{Mode as Record}
 use Rattle.engine_state.specs.declared.state.Mode.TheVariants as record_of
-use Rattle.keeper.specs.declared.Answer.{Answer}
+use Rattle.messages.specs.declared.message.Answer.{Answer}
 use Rattle.keeper.specs.declared.LastCall.{LastCall}
 use Rattle.keeper.specs.declared.Verdict.{Verdict}
 use Rattle.keeper.specs.declared.Verdict.TheVariants as verdict
@@ -138,16 +137,16 @@ rest_same [] = refl
 rest_same (x ∷ q) = refl
 
 holder_told_lem : (h : SectionHolder) → holder_told (holder_of h) ≡ holder_by h
-holder_told_lem has.Free = refl
-holder_told_lem (has.Engine e) = refl
+holder_told_lem None = refl
+holder_told_lem (Some e) = refl
 
-holder_mine : (h : SectionHolder) (e : ℕ) → holder_of h ≡ holder.Engine (engine e) → holder_by h ≡ by e
-holder_mine has.Free e q = absurd (let u : ◌≡◌ {A = ℕ} 0 1 = cc in omega arith)
-holder_mine (has.Engine x) e q = ap by (ap number q)
+holder_mine : (h : SectionHolder) (e : ℕ) → holder_of h ≡ Some (engine e) → holder_by h ≡ by e
+holder_mine None e q = absurd (let u : ◌≡◌ {A = ℕ} 0 1 = cc in omega arith)
+holder_mine (Some x) e q = ap by (ap number q)
   where
     number : Holder → ℕ
-    number holder.Nobody = 0
-    number (holder.Engine v) = v.0
+    number None = 0
+    number (Some v) = v.0
 
 -- an answer that was sent stays true: last calls stay, or their numbers rise
 answer_on : (l k : LastCall) (m : ℕ) (a : Answer) → (k ≡ l) ⊎ (l.number < k.number) → AnswerStands l m a → AnswerStands k m a
@@ -166,13 +165,13 @@ module _ {y : sizes.Yard} {bs : Boxes} {z now : model.Yard} {i : ℕ} (n : ℕ) 
 
   stays_on : (from : BoxNumber) (m : Message) → True y bs z from m → True y (boxes-with bs n k) now from m
   stays_on from (message.Call d) h = subst (λ x. WasCalled x d) (sym (state_same bs n k y d.engine.0)) h
-  stays_on from (message.Answer e m r v c) h = answer_on (last_at bs from.0 e.0) _ m _ (rise_at from.0 e.0) h
-  stays_on from (message.Change s v c) h =
-      let d = t.moved (number_of s) in let up = change_rises d in let l = h.1 in
+  stays_on from (message.Answer e m answer) h = answer_on (last_at bs from.0 e.0) _ m _ (rise_at from.0 e.0) h
+  stays_on from (message.Change news) h =
+      let d = t.moved (number_of news.section) in let up = change_rises d in let l = h.1 in
       (past_kept d l ∙ h.0, omega arith)
   stays_on from (message.WhichChange e s) h = tt
-  stays_on from (message.Sign e m b s) h = rw t.told h
-  stays_on from (message.Waits e s m c) h = rw t.begun h
+  stays_on from (message.Sign telling) h = rw t.told h
+  stays_on from (message.Waits waiting) h = rw t.begun h
 
   -- all engines and sections being as they should, the step keeps all
   step_on : (c : Call) (v : Verdict) →
@@ -322,7 +321,7 @@ module _ {y : sizes.Yard} {bs : Boxes} {z : model.Yard} (c : Call) (r : Reach y.
   at_put_same x = at_put (λ v. v ≡ x) (number_of c.section) x z.section (number_of c.section) (λ _. refl) (λ o. absurd (o refl))
 
   -- a free section is had
-  takes_it : c.act ≡ act.Take → row.has ≡ has.Free → Came (Ok (record { has = has.Engine c.engine.0; queue = row.queue; change = row.change + 1 }, did.Had))
+  takes_it : c.act ≡ act.Take → row.has ≡ None → Came (Ok (record { has = Some c.engine.0; queue = row.queue; change = row.change + 1 }, did.Had))
   takes_it k f =
       put_step (take_step i s (asks, row_as.holder ∙ ap holder_by f)) _ x refl same _ (verdict.Done _) refl (rw k (ap (λ (v : model.Section). v.holder) (at_put_same x))) (λ b h. h)
     where
@@ -338,11 +337,11 @@ module _ {y : sizes.Yard} {bs : Boxes} {z : model.Yard} (c : Call) (r : Reach y.
       x : model.Section
       x = model.handed (by i) (z.section s).queue (z.section s)
 
-      same : SectionAs (record { has = has.Engine i; queue = row.queue; change = row.change + 1 }) x
+      same : SectionAs (record { has = Some i; queue = row.queue; change = row.change + 1 }) x
       same = record { holder = refl; queue = row_as.queue; change = (let q = row_as.change in omega arith) }
 
   -- one that another has is waited for
-  joins_it : c.act ≡ act.Take → (h : ℕ) → row.has ≡ has.Engine h → (h ≡ c.engine.0 → ⊥) → (Queued z c.engine.0 (number_of c.section) → ⊥) →
+  joins_it : c.act ≡ act.Take → (h : ℕ) → row.has ≡ Some h → (h ≡ c.engine.0 → ⊥) → (Queued z c.engine.0 (number_of c.section) → ⊥) →
       Came (Ok (record { has = row.has; queue = row.queue ++ c.engine.0 ∷ []; change = row.change }, did.Waits h))
   joins_it k h f ne out =
       put_step (join_step i s (asks, (h, had, λ q. ne (sym q)), out)) new x refl same _ (verdict.Done _) refl (rw k waits_there) (λ b w. w)
@@ -396,7 +395,7 @@ module _ {y : sizes.Yard} {bs : Boxes} {z : model.Yard} (c : Call) (r : Reach y.
           }
 
   -- what is let go passes to the first of the queue
-  passes_it : c.act ≡ act.Free → row.has ≡ has.Engine c.engine.0 → Came (Ok (pass_on row, did.LetGo (first_of row.queue)))
+  passes_it : c.act ≡ act.Free → row.has ≡ Some c.engine.0 → Came (Ok (pass_on row, did.LetGo (first_of row.queue)))
   passes_it k f = put_step step (pass_on row) x refl same a (let_go a (first_of row.queue)) (used (first_of row.queue)) (rw k gone) (λ b h. tells b h (first_of row.queue))
     where
       n : ℕ
@@ -435,8 +434,8 @@ module _ {y : sizes.Yard} {bs : Boxes} {z : model.Yard} (c : Call) (r : Reach y.
       now = model.after z (model.passes i s)
 
       used : (h : SectionHolder) → used_of (last_of (bs n).keeper i) c.number (let_go a h) ≡ record { number = c.number; answer = a }
-      used has.Free = refl
-      used (has.Engine j) = refl
+      used None = refl
+      used (Some j) = refl
 
       gone : model.holder now s ≡ by i → ⊥
       gone h = ((sound r).places.kept s).apart i had (first_in (z.section s).queue i (ap (λ (v : model.Section). v.holder) (sym (at_put_same x)) ∙ h))
@@ -447,12 +446,12 @@ module _ {y : sizes.Yard} {bs : Boxes} {z : model.Yard} (c : Call) (r : Reach y.
       holder-is : model.holder now s ≡ holder_told a.holder
       holder-is = ap (λ (v : model.Section). v.holder) (at_put_same x) ∙ same.holder ∙ sym (ap holder_by (said_holder (pass_on row))) ∙ sym (holder_told_lem _)
 
-      changed : (b : Boxes) → True y b now (record { 0 = n }) (message.Change c.section a.holder a.change)
+      changed : (b : Boxes) → True y b now (record { 0 = n }) (message.Change (record { section = c.section; holder = a.holder; change = a.change }))
       changed b = (ap (now.section s).past change-is ∙ ((sound (reach_on r step.run)).places.kept s).now ∙ holder-is, (let q = change-is in omega arith))
 
       tells : (b : Boxes) → AnswerTrue y b now n c a → (h : SectionHolder) → VerdictTrue y b now n c (let_go a h)
-      tells b t has.Free = t
-      tells b t (has.Engine j) = (t, changed b)
+      tells b t None = t
+      tells b t (Some j) = (t, changed b)
 
   -- an engine of the queue leaves it
   leaves_it : c.act ≡ act.GiveUp → Came (Ok (record { has = row.has; queue = table.without c.engine.0 row.queue; change = row.change }, did.Left))
@@ -510,8 +509,8 @@ module _ {y : sizes.Yard} {bs : Boxes} {z : model.Yard} (c : Call) (r : Reach y.
           u.1 (subst (Queued z c.engine.0) (sym same) m)
 
       cases : (h : SectionHolder) → row.has ≡ h → Came (take_by h row c.engine.0)
-      cases has.Free q = cond_both (changeable row) _ _ Came (λ _. takes_it k q) (λ _. at_limit)
-      cases (has.Engine j) q =
+      cases None q = cond_both (changeable row) _ _ Came (λ _. takes_it k q) (λ _. at_limit)
+      cases (Some j) q =
           cond_both (eqb j c.engine.0) _ _ Came
           (λ e. absurd (u.0 (row_as.holder ∙ ap holder_by q ∙ ap by (eqb-true j c.engine.0 e))))
           (λ e. joins_it k j q (eqb-false j c.engine.0 e) u.1)
@@ -524,10 +523,10 @@ module _ {y : sizes.Yard} {bs : Boxes} {z : model.Yard} (c : Call) (r : Reach y.
       out q l m = queued_not_freeing (sound r).places m frees
 
       cases : (h : SectionHolder) → row.has ≡ h → Came (free_by h row c.engine.0)
-      cases has.Free q = absurd (by≢free _ c.engine.0 u (row_as.holder ∙ ap holder_by q))
-      cases (has.Engine j) q =
+      cases None q = absurd (by≢free _ c.engine.0 u (row_as.holder ∙ ap holder_by q))
+      cases (Some j) q =
           cond_both (eqb j c.engine.0) _ _ Came
-          (λ e. cond_both (changeable row) _ _ Came (λ _. passes_it k (q ∙ ap has.Engine (eqb-true j c.engine.0 e))) (λ _. at_limit))
+          (λ e. cond_both (changeable row) _ _ Came (λ _. passes_it k (q ∙ ap Some (eqb-true j c.engine.0 e))) (λ _. at_limit))
           (λ e. absurd (eqb-false j c.engine.0 e (same_holder (row_as.holder ∙ ap holder_by q) u)))
   tried act.GiveUp k u =
       cond_both (known c.engine.0 c.section.place) _ _ Came

@@ -1,4 +1,5 @@
 -- An engine makes a call only when its last one is known to be over: then the model may ask or free, and all that is known of the engine holds on.
+use Rattle.std.specs.Prelude.{None, Some}
 use Rattle.std.proofs.Common.{◌≡◌, ℕ, ◌+◌, ◌^◌, ◌<◌, ◌≤◌, Bool, true, false, cond, ◌||◌, eqb, ltb, ◌⊎◌, List, [], ◌∷◌, length, get_or, set, is_some, Some, None, Ok, Err, Option, Result, sym, refl, ap, ◌∙◌, subst, inl, inr, arith, length-set, get_or-set_other, get_or-set_same}
 use Rattle.std.proofs.lemmas.Bool.{cases_eq, lt-ltb, eqb-true, eq-eqb, and_parts, and_from, or_cases, or_left, or_right, or_parts, true≢false, false≢true}
 use Rattle.messages.specs.declared.yard.Section.{Section}
@@ -9,8 +10,7 @@ use Rattle.messages.specs.declared.message.Call.{Call}
 use Rattle.messages.specs.declared.message.Refusal.{Refusal}
 use Rattle.messages.specs.declared.message.Refusal.TheVariants as refusal
 use Rattle.messages.specs.Range.{SectionIn}
-use Rattle.signs.specs.declared.Wait.{Wait}
-use Rattle.signs.specs.declared.Wait.TheVariants.{Nobody, For}
+use Rattle.signs.specs.Signs.{Wait}
 use Rattle.engine_state.specs.declared.places.Places.{Places}
 use Rattle.engine_state.specs.declared.state.Event.TheVariants as event
 use Rattle.engine_state.specs.declared.state.Known.{Known}
@@ -54,10 +54,10 @@ module _ (y : sizes.Yard) (z : model.Yard) (e : ℕ) (l : ℕ → ℕ) (p : Plac
   over_settled known.Closed (mode.Called act.Take s n) w count o i d = absurd d.1
   over_settled known.Closed (mode.Called act.Free s n) w count o i d = d.1
   over_settled known.Closed (mode.Called act.GiveUp s n) w count o i d = d.1
-  over_settled known.Pending (mode.Waiting s c) Nobody count o i d = tt
-  over_settled known.Pending (mode.Waiting s c) (For j) count o i d = absurd (some≢none o.1)
-  over_settled known.Had (mode.Waiting s c) Nobody count o i d = tt
-  over_settled known.Had (mode.Waiting s c) (For j) count o i d = d
+  over_settled known.Pending (mode.Waiting s c) None count o i d = tt
+  over_settled known.Pending (mode.Waiting s c) (Some j) count o i d = absurd (some≢none o.1)
+  over_settled known.Had (mode.Waiting s c) None count o i d = tt
+  over_settled known.Had (mode.Waiting s c) (Some j) count o i d = d
   over_settled known.Closed (mode.Waiting s c) w count o i d = absurd d
 
 -- whose last call and wait are known to be over, its last call is done
@@ -107,11 +107,11 @@ module _ (z : model.Yard) (e : ℕ) (l : ℕ → ℕ) where
   about_had s known.Closed (mode.Called act.Take t n) w count o y i d h a = absurd d.1
   about_had s known.Closed (mode.Called act.Free t n) w count o y i d h a = absurd (d.1 (subst (λ (u : Section). model.holder z (number_of u) ≡ by e) (sym a) h))
   about_had s known.Closed (mode.Called act.GiveUp t n) w count o y i d h a = absurd a
-  about_had s known.Pending (mode.Waiting t c) Nobody count o y i d h a = absurd (nobody i.1.1)
+  about_had s known.Pending (mode.Waiting t c) None count o y i d h a = absurd (nobody i.1.1)
     where
-      nobody : {j : ℕ} → Nobody ≡ For j → ⊥
+      nobody : {j : ℕ} → None ≡ Some j → ⊥
       nobody p = let z : ◌≡◌ {A = ℕ} 0 1 = cc in omega arith
-  about_had s known.Pending (mode.Waiting t c) (For j) count o y i d h a = absurd (some≢none o.1)
+  about_had s known.Pending (mode.Waiting t c) (Some j) count o y i d h a = absurd (some≢none o.1)
   about_had s known.Had (mode.Waiting t c) w count o y i d h a = by_same t s a
   about_had s known.Closed (mode.Waiting t c) w count o y i d h a = absurd d
 
@@ -125,11 +125,11 @@ module _ (z : model.Yard) (e : ℕ) (l : ℕ → ℕ) where
   wanted_had s known.Closed (mode.Called act.Take t n) w count o y i d q = absurd d.1
   wanted_had s known.Closed (mode.Called act.Free t n) w count o y i d q = absurd (none≢some q)
   wanted_had s known.Closed (mode.Called act.GiveUp t n) w count o y i d q = absurd (none≢some q)
-  wanted_had s known.Pending (mode.Waiting t c) Nobody count o y i d q = absurd (nobody i.1.1)
+  wanted_had s known.Pending (mode.Waiting t c) None count o y i d q = absurd (nobody i.1.1)
     where
-      nobody : {j : ℕ} → Nobody ≡ For j → ⊥
+      nobody : {j : ℕ} → None ≡ Some j → ⊥
       nobody p = let z : ◌≡◌ {A = ℕ} 0 1 = cc in omega arith
-  wanted_had s known.Pending (mode.Waiting t c) (For j) count o y i d q = absurd (some≢none o.1)
+  wanted_had s known.Pending (mode.Waiting t c) (Some j) count o y i d q = absurd (some≢none o.1)
   wanted_had s known.Had (mode.Waiting t c) w count o y i d q = let same : t ≡ s = cc in subst (λ (u : Section). model.holder z (number_of u) ≡ by e) same d
   wanted_had s known.Closed (mode.Waiting t c) w count o y i d q = absurd d
 

@@ -1,4 +1,5 @@
 -- Each message that a box receives, if it is true, is a run of the model.
+use Rattle.std.specs.Prelude.{None, Some}
 use Rattle.std.proofs.Common.{◌≡◌, ℕ, zero, suc, ◌+◌, ◌*◌, ◌<◌, ◌≤◌, Bool, true, false, cond, eqb, sym, refl, ap, ◌∙◌, subst, inr, le_refl}
 use Rattle.std.proofs.lemmas.Bool.{eqb-true, and_parts}
 use Rattle.messages.specs.declared.yard.BoxNumber.{BoxNumber}
@@ -6,15 +7,13 @@ use Rattle.messages.specs.declared.yard.Engine.{Engine}
 use Rattle.messages.specs.declared.yard.Section.{Section}
 use Rattle.messages.specs.declared.yard.Yard as sizes
 use Rattle.messages.specs.declared.message.Call.{Call}
-use Rattle.messages.specs.declared.message.Holder.{Holder}
-use Rattle.messages.specs.declared.message.Holder.TheVariants as holder
+use Rattle.messages.specs.Holder.{Holder}
 use Rattle.messages.specs.declared.message.Message.{Message}
 use Rattle.messages.specs.declared.message.Message.TheVariants as message
 use Rattle.messages.specs.declared.message.Record.TheVariants as journal
 use Rattle.messages.specs.declared.message.Refusal.TheVariants as refusal
 use Rattle.messages.specs.Range.{CallIn, MessageIn, SectionIn}
-use Rattle.sections.specs.declared.Holder.{Holder as SectionHolder}
-use Rattle.sections.specs.declared.Holder.TheVariants as has
+use Rattle.sections.specs.Table.{Holder as SectionHolder}
 use Rattle.sections.specs.Table.{change_number_at, holder_at, place_at}
 use Rattle.keeper.specs.declared.Verdict.{Verdict}
 use Rattle.keeper.specs.declared.Verdict.TheVariants as verdict
@@ -23,7 +22,7 @@ use Rattle.keeper.specs.Homes.{told_of}
 use Rattle.keeper.specs.Words.{holder_of}
 use Rattle.journal.specs.declared.output.Output.TheVariants as output
 use Rattle.boxes.specs.Log.{Log, none, recorded, sent, each}
-use Rattle.boxes.specs.Emit.{home_of}
+use Rattle.messages.specs.Homes.{home_of}
 use Rattle.boxes.specs.Model.{State as Box, with_keeper}
 use Rattle.boxes.specs.Keeping.{refused, for_us, called_at, which_at, ruled, ruled_log, answered, change_to}
 use Rattle.boxes.specs.Handle.{happened, received_of, wait_at_box, wait_from_home, wait_from_keeper, wait_here, wait_sent}
@@ -46,8 +45,8 @@ KeeperLaw y = (bs : Boxes) (z : model.Yard) (n : ℕ) → Reach y.engines z → 
 
 -- a holder is told as it is
 told_holder : (h : SectionHolder) → holder_by h ≡ holder_told (holder_of h)
-told_holder has.Free = refl
-told_holder (has.Engine e) = refl
+told_holder None = refl
+told_holder (Some e) = refl
 
 module _ (y : sizes.Yard) (bs : Boxes) (z : model.Yard) (n : ℕ) (a : As y bs z) where
   pub refused_handled : Handled y bs z n (refused (bs n) none)
@@ -63,7 +62,7 @@ module _ (y : sizes.Yard) (bs : Boxes) (z : model.Yard) (n : ℕ) (a : As y bs z
 
   -- who has a section, and of which change, as the box has it
   last_true : Reach y.engines z → n < y.boxes → (from : BoxNumber) (s : Section) → SectionIn y s → s.keeper.0 ≡ n →
-      True y bs z from (message.Change s (holder_of (holder_at (bs n).keeper.table s.place)) (change_number_at (bs n).keeper.table s.place))
+      True y bs z from (message.Change (record { section = s; holder = holder_of (holder_at (bs n).keeper.table s.place); change = change_number_at (bs n).keeper.table s.place }))
   last_true r i from s p q =
       let k : SectionAs (place_at (bs n).keeper.table s.place) (z.section (number_of s)) = subst (λ (b : ℕ). SectionAs (place_at (bs n).keeper.table s.place) (z.section (b * 64 + s.place))) (sym q) (a.sections n s.place i p.1) in
       let w = (sound r).places.kept (number_of s) in
@@ -74,7 +73,7 @@ module _ (y : sizes.Yard) (bs : Boxes) (z : model.Yard) (n : ℕ) (a : As y bs z
   which_handled r i k from e s p = go (for_us (bs n) from e s) refl
     where
       go : (t : Bool) → for_us (bs n) from e s ≡ t → Handled y bs z n
-          (cond t (bs n, sent none from (message.Change s (holder_of (holder_at (bs n).keeper.table s.place)) (change_number_at (bs n).keeper.table s.place))) (refused (bs n) none))
+          (cond t (bs n, sent none from (message.Change (record { section = s; holder = holder_of (holder_at (bs n).keeper.table s.place); change = change_number_at (bs n).keeper.table s.place }))) (refused (bs n) none))
       go true q = sent_handled from _ tt (last_true r i (record { 0 = n }) s p (eqb-true _ _ (and_parts _ _ q).0 ∙ k.number))
       go false q = refused_handled
 
@@ -85,13 +84,13 @@ module _ (y : sizes.Yard) (law : HomeLaw y) (held : HeldLaw y) (bs : Boxes) (z :
   noted_handled = home_handled y law held bs z n reach in-yard a k (homes.waits e s count) begun
 
   passed_handled : (h : Holder) → Handled y bs z n (wait_sent (bs n) e s count change h none)
-  passed_handled holder.Nobody = nothing_handled y bs z n a
-  passed_handled (holder.Engine j) = go (eqb (home_of (bs n).home.yard j).0 (bs n).home.number.0)
+  passed_handled None = nothing_handled y bs z n a
+  passed_handled (Some j) = go (eqb (home_of (bs n).home.yard j).0 (bs n).home.number.0)
     where
       go : (t : Bool) → Handled y bs z n
-          (cond t (happened (bs n) (waits_of (bs n).home e s count) none) (bs n, sent none (home_of (bs n).home.yard j) (message.Waits e s count change)))
+          (cond t (happened (bs n) (waits_of (bs n).home e s count) none) (bs n, sent none (home_of (bs n).home.yard j) (message.Waits (record { engine = e; section = s; count = count; change = change }))))
       go true = noted_handled
-      go false = sent_handled y bs z n a (home_of (bs n).home.yard j) (message.Waits e s count change) tt begun
+      go false = sent_handled y bs z n a (home_of (bs n).home.yard j) (message.Waits (record { engine = e; section = s; count = count; change = change })) tt begun
 
   here_handled : (t : Bool) → Handled y bs z n (cond t (wait_sent (bs n) e s count change (holder_of (holder_at (bs n).keeper.table s.place)) none) (bs n, none))
   here_handled true = passed_handled (holder_of (holder_at (bs n).keeper.table s.place))
@@ -114,14 +113,14 @@ module _ (y : sizes.Yard) (law : HomeLaw y) (held : HeldLaw y) (bs : Boxes) (z :
 
 -- what a verdict says is true
 module _ (y : sizes.Yard) (z : model.Yard) (n : ℕ) (cs : Boxes) (u : model.Yard) (b : Box) (c : Call) where
-  changes_true : (h : Holder) (m : ℕ) → True y cs u (record { 0 = n }) (message.Change c.section h m) → (k : ℕ) (l : Log) → AllTrue y z n cs u l.outputs →
+  changes_true : (h : Holder) (m : ℕ) → True y cs u (record { 0 = n }) (message.Change (record { section = c.section; holder = h; change = m })) → (k : ℕ) (l : Log) → AllTrue y z n cs u l.outputs →
       AllTrue y z n cs u (each (λ i. change_to b c.section h m i) k l).outputs
   unfolding each
   changes_true h m t zero l a = a
   changes_true h m t (suc k) l a = go (each (λ i. change_to b c.section h m i) k l) (told_of b.home.yard k b.keeper.table c.section.place) (changes_true h m t k l a)
     where
-      go : (j : Log) (told : Bool) → AllTrue y z n cs u j.outputs → AllTrue y z n cs u (cond told (sent j (record { 0 = k }) (message.Change c.section h m)) j).outputs
-      go j true i = all_said y z n cs u j.outputs (output.Send (record { 0 = k }) (message.Change c.section h m)) i (tt, t)
+      go : (j : Log) (told : Bool) → AllTrue y z n cs u j.outputs → AllTrue y z n cs u (cond told (sent j (record { 0 = k }) (message.Change (record { section = c.section; holder = h; change = m }))) j).outputs
+      go j true i = all_said y z n cs u j.outputs (output.Send (record { 0 = k }) (message.Change (record { section = c.section; holder = h; change = m }))) i (tt, t)
       go j false i = i
 
   ruled_true : (v : Verdict) → VerdictTrue y cs u n c v → AllTrue y z n cs u (ruled_log b c v none).outputs
@@ -160,8 +159,8 @@ module _ (y : sizes.Yard) (law : HomeLaw y) (held : HeldLaw y) (ruling : KeeperL
     (k : Sized y n (bs n)) where
   pub received_handled : (from : BoxNumber) → from.0 < y.boxes → (m : Message) → MessageIn y m → True y bs z from m → Handled y bs z n (received_of (bs n) from m none)
   received_handled from f (message.Call c) i t = call_handled y ruling bs z n reach in-yard a k from c i t
-  received_handled from f (message.Answer e m r h c) i t = home_handled y law held bs z n reach in-yard a k (homes.answer from e m r h c) (t, i.3, f)
-  received_handled from f (message.Change s h c) i t = change_handled y law held bs z n reach in-yard s h c t.0 t.1 i.1 a k from
+  received_handled from f (message.Answer e m told) i t = home_handled y law held bs z n reach in-yard a k (homes.answer from e m told.reply told.holder told.change) (t, i.3, f)
+  received_handled from f (message.Change news) i t = change_handled y law held bs z n reach in-yard news.section news.holder news.change t.0 t.1 i.1 a k from
   received_handled from f (message.WhichChange e s) i t = which_handled y bs z n a reach in-yard k from e s i.1
-  received_handled from f (message.Sign e m j s) i t = home_handled y law held bs z n reach in-yard a k (homes.sign from e m j s) t
-  received_handled from f (message.Waits e s m c) i t = waits_handled y law held bs z n reach in-yard a k from e s m c t
+  received_handled from f (message.Sign telling) i t = home_handled y law held bs z n reach in-yard a k (homes.sign from telling.to telling.count telling.by telling.sign) t
+  received_handled from f (message.Waits waiting) i t = waits_handled y law held bs z n reach in-yard a k from waiting.engine waiting.section waiting.count waiting.change t

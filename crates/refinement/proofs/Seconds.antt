@@ -1,4 +1,5 @@
 -- A second: all that is said again is true, and every sign told is an act of the model.
+use Rattle.std.specs.Prelude.{None, Some}
 use Rattle.std.proofs.Common.{◌≡◌, ℕ, ◌%◌, ◌<◌, ◌≤◌, Bool, true, false, cond, Some, None, sym, refl, ap, ◌∙◌, subst, le_refl}
 use Rattle.std.proofs.lemmas.Bool.{eqb-true, ltb-true, and_parts, eq-eqb}
 use Rattle.messages.specs.declared.yard.Engine.{Engine}
@@ -6,8 +7,7 @@ use Rattle.messages.specs.declared.yard.Section.{Section}
 use Rattle.messages.specs.declared.yard.Yard as sizes
 use Rattle.messages.specs.declared.message.Act.{Act}
 use Rattle.messages.specs.declared.message.Message.TheVariants as message
-use Rattle.signs.specs.declared.Wait as whom
-use Rattle.signs.specs.declared.Wait.TheVariants.{Nobody, For}
+use Rattle.signs.specs.Signs as whom
 use Rattle.engine_state.specs.declared.state.Known.{Known}
 use Rattle.engine_state.specs.declared.state.Known.TheVariants as known
 use Rattle.engine_state.specs.declared.state.Mode.{Mode}
@@ -77,16 +77,16 @@ module _ (y : sizes.Yard) (held : HeldLaw y) (bs : Boxes) (z : model.Yard) (n : 
   wait_mode l g e q known.Closed m w p r = g
   wait_mode l g e q known.Pending mode.Idle w p r = g
   wait_mode l g e q known.Pending (mode.Called b s c) w p r = g
-  wait_mode l g e q known.Pending (mode.Waiting s c) Nobody p r = g
-  wait_mode l g e q known.Pending (mode.Waiting s c) (For j) p r =
+  wait_mode l g e q known.Pending (mode.Waiting s c) None p r = g
+  wait_mode l g e q known.Pending (mode.Waiting s c) (Some j) p r =
       let x : State = at (bs n).home (engine e) in
       let f = engine_now l g e q in
       let m : model.mode g.now e ≡ model.waiting j (number_of s) c =
       ap (λ (v : model.Engine). v.mode) f.same ∙ ap (λ (v : Mode). mode_by v x.signs.wait) p ∙ ap (λ (v : whom.Wait). mode_by (mode.Waiting s c) v) r in
       let h : HasBegun g.now e x.signs.count (number_of s) =
       subst (λ (v : ℕ). HasBegun g.now e v (number_of s)) (ap (λ (v : model.Engine). v.count) f.same) ((sound (reach_on reach g.run)).signs.begun_now e j (number_of s) c m) in
-      going_said y bs z n (bs n) (sent l s.keeper (message.Waits (engine e) s x.signs.count c)) (output.Send s.keeper (message.WhichChange (engine e) s))
-      (going_said y bs z n (bs n) l (output.Send s.keeper (message.Waits (engine e) s x.signs.count c)) g (tt, h)) (tt, tt)
+      going_said y bs z n (bs n) (sent l s.keeper (message.Waits (record { engine = engine e; section = s; count = x.signs.count; change = c }))) (output.Send s.keeper (message.WhichChange (engine e) s))
+      (going_said y bs z n (bs n) l (output.Send s.keeper (message.Waits (record { engine = engine e; section = s; count = x.signs.count; change = c }))) g (tt, h)) (tt, tt)
 
   wait_going : (l : Log) (g : Going y bs z n (bs n) l) (e : ℕ) (t : Bool) → is_ours (bs n).home (engine e) ≡ t →
       Going y bs z n (bs n) (wait_again (engine e) (cond t (wait_of (at (bs n).home (engine e))) None) l)

@@ -1,4 +1,5 @@
 -- Whatever comes to a box its tables keep their sizes.
+use Rattle.std.specs.Prelude.{None, Some}
 use Rattle.std.proofs.Common.{◌≡◌, ℕ, Bool, true, false, cond, not, ◌||◌, leb, List, map, length, set, Some, None, Ok, Err, Option, Result, ◌∙◌, length-set}
 use lib.ListN.{length-map}
 use Rattle.messages.specs.declared.yard.Engine.{Engine}
@@ -12,8 +13,7 @@ use Rattle.engine_state.specs.declared.state.Event.TheVariants as event
 use Rattle.engine_state.specs.Inputs.{answer_at, change_at, sign_at}
 use Rattle.engine_state.specs.declared.state.State.{State}
 use Rattle.home.specs.declared.home.Home.{Home}
-use Rattle.home.specs.declared.home.Note.{Note}
-use Rattle.home.specs.declared.home.Note.TheVariants as note
+use Rattle.home.specs.Noted.{Noted}
 use Rattle.home.specs.Home.{is_home, is_ours, at, with, made_of}
 use Rattle.home.specs.Inputs.{taken, freed, taking, freeing, unless_for, with_notes, put_in, noted_for, is_older, has_section}
 use Rattle.home.specs.Queries.{holder_of, note_at}
@@ -75,7 +75,7 @@ module _ (y : sizes.Yard) (n : ℕ) (b : Box) where
   sign_sized h t true e f v w s = ours_sized h t e f v s
   sign_sized h t false e f v w s = s
 
-  note_sized : (h : Home) (t u : Bool) (xs : List Note) (v w a : Event) → length xs ≡ length h.notes → Sized y n (with_home b h) →
+  note_sized : (h : Home) (t u : Bool) (xs : List Noted) (v w a : Event) → length xs ≡ length h.notes → Sized y n (with_home b h) →
       Sized y n (with_home b (cond {A = Home × Event} t (h, v) (cond u (with_notes h xs, w) (h, a))).0)
   note_sized h true u xs v w a q s = s
   note_sized h false true xs v w a q s = noted_sized h xs q s
@@ -86,7 +86,7 @@ module _ (y : sizes.Yard) (n : ℕ) (b : Box) where
   waits_sized h e p c true v o s = s
   waits_sized h e p c false v None s = s
   waits_sized h e p c false v (Some k) s =
-      note_sized h (leb 64 e.0 || is_older c (note_at h e)) (is_ours h k) (set h.notes e.0 (note.Waits p c)) event.PassedOver (event.Noted e c k (at h k).signs.shown) event.PassedOver (length-set h.notes e.0 (note.Waits p c)) s
+      note_sized h (leb 64 e.0 || is_older c (note_at h e)) (is_ours h k) (set h.notes e.0 (Some (record { section = p; count = c }))) event.PassedOver (event.Noted (record { to = e; count = c; by = k; sign = (at h k).signs.shown })) event.PassedOver (length-set h.notes e.0 (Some (record { section = p; count = c }))) s
 
 pub home_sized : (y : sizes.Yard) (n : ℕ) (b : Box) → Sized y n b → (i : homes.Input) → Sized y n (with_home b (homes.step_of b.home i).0)
 home_sized y n b s (homes.take e p) = taken_sized y n b b.home (taking b.home e p) s

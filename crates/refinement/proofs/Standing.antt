@@ -1,4 +1,5 @@
 -- What is known of an engine stays true while another engine's call is done at a section's box.
+use Rattle.std.specs.Prelude.{None, Some}
 use Rattle.std.proofs.Common.{◌≡◌, ℕ, ◌+◌, ◌<◌, true, ◌⊎◌, List, [], ◌∷◌, sym, refl, ap, ◌∙◌, inl, inr, arith}
 use mathlib.Core.List.Memᴰ
 use mathlib.Core.List.{Memᴰ}
@@ -6,19 +7,18 @@ use Rattle.messages.specs.declared.yard.Section.{Section as Place}
 use Rattle.messages.specs.declared.yard.Yard as sizes
 use Rattle.messages.specs.declared.message.Act.{Act as Kind}
 use Rattle.messages.specs.declared.message.Act.TheVariants as act
-use Rattle.messages.specs.declared.message.Holder.{Holder}
+use Rattle.messages.specs.Holder.{Holder}
 use Rattle.messages.specs.declared.message.Reply.{Reply}
 use Rattle.messages.specs.declared.message.Reply.TheVariants as reply
 use Rattle.messages.specs.Range.{SectionIn}
-use Rattle.signs.specs.declared.Wait.{Wait}
-use Rattle.signs.specs.declared.Wait.TheVariants.{Nobody, For}
+use Rattle.signs.specs.Signs.{Wait}
 use Rattle.engine_state.specs.declared.state.Known.{Known}
 use Rattle.engine_state.specs.declared.state.Known.TheVariants as known
 use Rattle.engine_state.specs.declared.state.Mode.{Mode as Record}
 use Rattle.engine_state.specs.declared.state.Mode.TheVariants as record_of
 use Rattle.engine_state.specs.declared.state.State.{State}
 use Rattle.engine_state.specs.Places.{has_of}
-use Rattle.keeper.specs.declared.Answer.{Answer}
+use Rattle.messages.specs.declared.message.Answer.{Answer}
 use Rattle.keeper.specs.declared.LastCall.{LastCall}
 use Rattle.yard.specs.Yard.{by, Section, Mode, asking, waiting, freeing, leaving, Yard, holder, mode, Queued, first, rest, handed, joined, left, Act, takes, joins, passes, leaves, May, after, Run, still, then, Reach}
 use Rattle.yard.proofs.Queues.{at_put, put_other, in_end, in_without, stays_without}
@@ -253,8 +253,8 @@ module _ {engines : ℕ} {z now : Yard} {i : ℕ} (r : Reach engines z) (t : Ste
   gets y s l (record_of.Called act.Take p k) w h a n = section_one p s h.1 l a
   gets y s l (record_of.Called act.Free p k) w h a n = absurd a
   gets y s l (record_of.Called act.GiveUp p k) w h a n = absurd (n (ap leaving a))
-  gets y s l (record_of.Waiting p c) Nobody h a n = absurd a
-  gets y s l (record_of.Waiting p c) (For j) h a n = section_one p s h.0.1 l a
+  gets y s l (record_of.Waiting p c) None h a n = absurd a
+  gets y s l (record_of.Waiting p c) (Some j) h a n = section_one p s h.0.1 l a
 
   -- what an engine has it has by its file or by its last record, whoever's call was done
   pub has_on : {y : sizes.Yard} {last : ℕ → LastCall} {x : State} (e : ℕ) → EngineAs y last x z e → (s : Place) → SectionIn y s → holder now (number_of s) ≡ by e →

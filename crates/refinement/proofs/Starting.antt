@@ -1,4 +1,5 @@
 -- Boxes of which there is no record yet are the model's start.
+use Rattle.std.specs.Prelude.{None, Some}
 use Rattle.std.proofs.Common.{◌≡◌, ℕ, zero, suc, ◌+◌, ◌*◌, ◌%◌, ◌^◌, ◌<◌, ◌≤◌, Bool, true, false, cond, ltb, get_or, replicate, sym, refl, ap, ◌∙◌, subst, inl, inr, arith}
 use native.Mathlib.Nat.{zero-div}
 use lib.ListN.{get_or-replicate}
@@ -6,7 +7,6 @@ use Rattle.std.proofs.lemmas.Bool.{cases_lt}
 use Rattle.messages.specs.declared.yard.BoxNumber.{BoxNumber}
 use Rattle.messages.specs.declared.yard.Section.{Section}
 use Rattle.messages.specs.declared.yard.Yard as sizes
-use Rattle.signs.specs.declared.Wait.TheVariants.{Nobody}
 use Rattle.signs.proofs.Places.{fresh_signs}
 use Rattle.signs.specs.declared.Engine as sign
 use Rattle.engine_state.specs.declared.state.Known.{Known}
@@ -19,8 +19,7 @@ use Rattle.keeper.specs.declared.LastCall.{LastCall}
 use Rattle.keeper.specs.Model.{never}
 use Rattle.sections.specs.Table as table
 use Rattle.boxes.specs.Model.{fresh}
-use Rattle.home.specs.declared.home.Note.{Note}
-use Rattle.home.specs.declared.home.Note.TheVariants as note
+use Rattle.home.specs.Noted.{Noted}
 use Rattle.home.specs.Home.{at}
 use Rattle.home.specs.Queries.{engine, note_at}
 use Rattle.yard.specs.Yard as model
@@ -46,7 +45,7 @@ none_had s = go (fits s)
 
 -- an engine of which there is no record yet
 fresh_engine : ℕ → State
-fresh_engine e = record { stored = blank; known = known.Pending; signs = record { wait = Nobody; count = 0; shown = e; own = e } }
+fresh_engine e = record { stored = blank; known = known.Pending; signs = record { wait = None; count = 0; shown = e; own = e } }
 
 fresh_state : (y : sizes.Yard) (b : BoxNumber) (e : ℕ) → e < 64 → fresh_engine e ≡ at (fresh y b).home (engine e)
 unfolding fresh_engine
@@ -54,8 +53,8 @@ fresh_state y b e h =
     let s : blank ≡ get_or (replicate 64 blank) e unread = sym (get_or-replicate 64 e blank unread h) in
     let k : known.Pending ≡ get_or (replicate 64 known.Pending) e known.Pending = sym (all_same 64 known.Pending e) in
     let g = sym (fresh_signs.1 e h) in
-    ap (λ (x : Stored). record { stored = x; known = known.Pending; signs = record { wait = Nobody; count = 0; shown = e; own = e } }) s ∙
-    ap (λ (x : Known). record { stored = get_or (replicate 64 blank) e unread; known = x; signs = record { wait = Nobody; count = 0; shown = e; own = e } }) k ∙
+    ap (λ (x : Stored). record { stored = x; known = known.Pending; signs = record { wait = None; count = 0; shown = e; own = e } }) s ∙
+    ap (λ (x : Known). record { stored = get_or (replicate 64 blank) e unread; known = x; signs = record { wait = None; count = 0; shown = e; own = e } }) k ∙
     ap (λ (x : sign.Engine). record { stored = get_or (replicate 64 blank) e unread; known = get_or (replicate 64 known.Pending) e known.Pending; signs = x }) g
 
 abbrev pub fresh_boxes : sizes.Yard → Boxes
@@ -85,11 +84,13 @@ fresh_as_engine y e =
     none-waits : {j s m : ℕ} → model.none ≡ model.waiting j s m → ⊥
     none-waits p = let z : ◌≡◌ {A = ℕ} 0 1 = cc in omega arith
 
-fresh_note : (y : sizes.Yard) (b e : ℕ) → note_at (fresh_boxes y b).home (engine e) ≡ note.Nothing
+fresh_note : (y : sizes.Yard) (b e : ℕ) → note_at (fresh_boxes y b).home (engine e) ≡ None
 fresh_note y b e = go (ltb e 64)
   where
-    go : (t : Bool) → cond t (get_or (replicate 64 note.Nothing) e note.Nothing) note.Nothing ≡ note.Nothing
-    go true = all_same 64 note.Nothing e
+    nothing : Noted
+    nothing = None
+    go : (t : Bool) → cond t (get_or (replicate 64 nothing) e nothing) nothing ≡ nothing
+    go true = all_same 64 nothing e
     go false = refl
 
 pub fresh_as : (y : sizes.Yard) → y.engines ≤ 64 → As y (fresh_boxes y) model.start
@@ -100,5 +101,5 @@ fresh_as y few =
       notes = λ b e s c i q. elim (nothing-waits (fresh_note y b e) q) [ ];
     }
   where
-    nothing-waits : {x : Note} {s : Section} {m : ℕ} → x ≡ note.Nothing → x ≡ note.Waits s m → ⊥
+    nothing-waits : {x : Noted} {s : Section} {m : ℕ} → x ≡ None → x ≡ Some (record { section = s; count = m }) → ⊥
     nothing-waits p q = let z : ◌≡◌ {A = ℕ} 0 1 = cc in omega arith

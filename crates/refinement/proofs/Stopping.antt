@@ -1,4 +1,5 @@
 -- A box that stops and comes up with what it had stored is as the model has it: a stop is no act of the model. And boxes that nobody called are the model's start.
+use Rattle.std.specs.Prelude.{None, Some}
 use Rattle.std.proofs.Common.{◌≡◌, ℕ, ◌+◌, ◌*◌, ◌%◌, ◌<◌, Bool, cond, ◌⊎◌, get_or, sym, ap, subst, inl, inr, arith}
 use mathlib.Core.Path.{fun_ext}
 use Rattle.std.proofs.lemmas.Bool.{cases_eq, eq-eqb, ne_eqb}
@@ -14,8 +15,7 @@ use Rattle.keeper.specs.declared.LastCall.{LastCall}
 use Rattle.keeper.specs.Model.{last_of}
 use Rattle.sections.specs.Table.{place_at}
 use Rattle.boxes.specs.Model.{State as Box}
-use Rattle.home.specs.declared.home.Note.{Note}
-use Rattle.home.specs.declared.home.Note.TheVariants as note
+use Rattle.home.specs.Noted.{Noted}
 use Rattle.home.specs.Home.{at}
 use Rattle.home.specs.Queries.{engine, note_at}
 use Rattle.yard.specs.Yard as model
@@ -30,7 +30,7 @@ pub record Reopened (b c : Box) : Type 0 where
   pub signs : c.home.signs ≡ b.home.signs
   pub stored : c.home.stored ≡ b.home.stored
   pub known : (e : ℕ) → get_or c.home.known e known.Pending ≡ known.Pending
-  pub notes : (e : ℕ) → note_at c.home (engine e) ≡ note.Nothing
+  pub notes : (e : ℕ) → note_at c.home (engine e) ≡ None
 
 forgets : (y : sizes.Yard) (l : ℕ → LastCall) (x : State) (z : model.Yard) (e : ℕ) → EngineAs y l x z e → EngineAs y l (knowing x known.Pending) z e
 forgets y l x z e h =
@@ -39,7 +39,7 @@ forgets y l x z e h =
 same_state : (b c : Box) → Reopened b c → (e : ℕ) → knowing (at b.home (engine e)) known.Pending ≡ at c.home (engine e)
 same_state b c r e = rw (← r.signs, ← r.stored) (ap (λ (k : Known). knowing (at c.home (engine e)) k) (sym (r.known e)))
 
-clash : {x : Note} {s : Section} {m : ℕ} → x ≡ note.Nothing → x ≡ note.Waits s m → ◌≡◌ {A = ℕ} 0 1
+clash : {x : Noted} {s : Section} {m : ℕ} → x ≡ None → x ≡ Some (record { section = s; count = m }) → ◌≡◌ {A = ℕ} 0 1
 clash p q = cc
 
 omega_false : ◌≡◌ {A = ℕ} 0 1 → ⊥
@@ -75,20 +75,20 @@ module _ (y : sizes.Yard) (bs : Boxes) (z : model.Yard) (n : ℕ) (c : Box) (r :
         notes = λ b e s m i q. noted b e s m i (cases_eq b n) q;
       }
     where
-      noted : (b e : ℕ) (s : Section) (m : ℕ) → b < y.boxes → (b ≡ n) ⊎ (b ≡ n → ⊥) → note_at (put n c bs b).home (engine e) ≡ note.Waits s m → HasBegun z e m (number_of s)
+      noted : (b e : ℕ) (s : Section) (m : ℕ) → b < y.boxes → (b ≡ n) ⊎ (b ≡ n → ⊥) → note_at (put n c bs b).home (engine e) ≡ Some (record { section = s; count = m }) → HasBegun z e m (number_of s)
       noted b e s m i (inl p) q =
-          let k : note_at c.home (engine e) ≡ note.Waits s m = subst (λ (t : Bool). note_at (cond t c (bs b)).home (engine e) ≡ note.Waits s m) (eq-eqb b n p) q in
+          let k : note_at c.home (engine e) ≡ Some (record { section = s; count = m }) = subst (λ (t : Bool). note_at (cond t c (bs b)).home (engine e) ≡ Some (record { section = s; count = m })) (eq-eqb b n p) q in
           let w : ◌≡◌ {A = ℕ} 0 1 = clash (r.notes e) k in
           elim (omega_false w) [ ]
-      noted b e s m i (inr p) q = a.notes b e s m i (subst (λ (t : Bool). note_at (cond t c (bs b)).home (engine e) ≡ note.Waits s m) (ne_eqb b n p) q)
+      noted b e s m i (inr p) q = a.notes b e s m i (subst (λ (t : Bool). note_at (cond t c (bs b)).home (engine e) ≡ Some (record { section = s; count = m })) (ne_eqb b n p) q)
 
   called_after : (e : ℕ) (d : Call) → WasCalled (state_in y bs e) d → WasCalled (state_in y (put n c bs) e) d
   called_after e d h = elim (state_after e) [ inl q ↦ subst (λ (x : State). WasCalled x d) (sym q) h | inr q ↦ subst (λ (x : State). WasCalled x d) q h ]
 
   pub stop_stays : Stays y bs z (put n c bs) z
   stop_stays from (message.Call d) t h = called_after d.engine.0 d h
-  stop_stays from (message.Answer e m q p k) t h = subst (λ x. AnswerStands (last_of x e.0) m (record { reply = q; holder = p; change = k })) (sym (keeper_after from.0)) h
-  stop_stays from (message.Change s p k) t h = h
+  stop_stays from (message.Answer e m answer) t h = subst (λ x. AnswerStands (last_of x e.0) m answer) (sym (keeper_after from.0)) h
+  stop_stays from (message.Change news) t h = h
   stop_stays from (message.WhichChange e s) t h = h
-  stop_stays from (message.Sign e m j v) t h = h
-  stop_stays from (message.Waits e s m k) t h = h
+  stop_stays from (message.Sign telling) t h = h
+  stop_stays from (message.Waits waiting) t h = h

@@ -1,4 +1,5 @@
 -- What a box says while an input is handled: each message that it sends is true, and a sign that it tells is an act of the model.
+use Rattle.std.specs.Prelude.{None, Some}
 use Rattle.std.proofs.Common.{◌≡◌, ℕ, zero, suc, ◌<◌, Bool, true, false, cond, List, [], ◌∷◌, ◌++◌, sym, refl, ap, ◌∙◌}
 use mathlib.Core.List.{Memᴰ}
 use Rattle.messages.specs.declared.yard.BoxNumber.{BoxNumber}
@@ -13,8 +14,7 @@ use Rattle.journal.specs.declared.output.Output.TheVariants as output
 use Rattle.boxes.specs.Log.{Log, recorded, said, sent, each}
 use Rattle.boxes.specs.Emit.{tell_noted, tell_of, tells_of}
 use Rattle.boxes.specs.Model.{State as Box}
-use Rattle.home.specs.declared.home.Note.{Note}
-use Rattle.home.specs.declared.home.Note.TheVariants as note
+use Rattle.home.specs.Noted.{Noted}
 use Rattle.home.specs.Queries.{engine, holds_at, note_at}
 use Rattle.std.proofs.lemmas.Bool.{eq-eqb}
 use Rattle.yard.specs.Yard as model
@@ -68,11 +68,11 @@ pub record Going (y : sizes.Yard) (bs : Boxes) (z : model.Yard) (n : ℕ) (b : B
 -- one sign told
 told_grows : (y : sizes.Yard) (bs : Boxes) (z : model.Yard) (x c s j : ℕ) → Stays y bs z bs (after z (tells x c s j))
 told_grows y bs z x c s j from (message.Call d) t h = h
-told_grows y bs z x c s j from (message.Answer e n r k m) t h = h
-told_grows y bs z x c s j from (message.Change p k m) t h = h
+told_grows y bs z x c s j from (message.Answer e n answer) t h = h
+told_grows y bs z x c s j from (message.Change news) t h = h
 told_grows y bs z x c s j from (message.WhichChange e p) t h = h
-told_grows y bs z x c s j from (message.Sign e n b v) t h = Memᴰ.tail h
-told_grows y bs z x c s j from (message.Waits e p n m) t h = h
+told_grows y bs z x c s j from (message.Sign telling) t h = Memᴰ.tail h
+told_grows y bs z x c s j from (message.Waits waiting) t h = h
 
 as_told : (y : sizes.Yard) (bs : Boxes) (z : model.Yard) (x c s j : ℕ) → As y bs z → As y bs (after z (tells x c s j))
 as_told y bs z x c s j a =
@@ -102,7 +102,7 @@ module _ (y : sizes.Yard) (bs : Boxes) (z : model.Yard) (n : ℕ) (b : Box) wher
 
   -- a sign told: the teller has the section that the other began to wait for, and shows the sign
   pub going_told : (l : Log) (to : BoxNumber) (x : Engine) (c : ℕ) (j : Engine) (v s : ℕ) (g : Going y bs z n b l) →
-      HasBegun g.now x.0 c s → model.holder g.now s ≡ by j.0 → model.shown g.now j.0 ≡ v → Going y bs z n b (sent l to (message.Sign x c j v))
+      HasBegun g.now x.0 c s → model.holder g.now s ≡ by j.0 → model.shown g.now j.0 ≡ v → Going y bs z n b (sent l to (message.Sign (record { to = x; count = c; by = j; sign = v })))
   going_told l to x c j v s g h k q =
       let more = told_grows y (put n b bs) g.now x.0 c s j.0 in
       record {
@@ -112,7 +112,7 @@ module _ (y : sizes.Yard) (bs : Boxes) (z : model.Yard) (n : ℕ) (b : Box) wher
         holds = as_told y (put n b bs) g.now x.0 c s j.0 g.holds;
         stays = λ from m t i. more from m t (g.stays from m t i);
         outputs =
-            all_said y z n (put n b bs) (after g.now (tells x.0 c s j.0)) l.outputs (output.Send to (message.Sign x c j v))
+            all_said y z n (put n b bs) (after g.now (tells x.0 c s j.0)) l.outputs (output.Send to (message.Sign (record { to = x; count = c; by = j; sign = v })))
             (all_stay y z n (put n b bs) (put n b bs) g.now (after g.now (tells x.0 c s j.0)) more l.outputs g.outputs)
             (tt, Memᴰ.head (ap (λ (w : ℕ). record { to = x.0; count = c; teller = j.0; sign = w }) (sym q)));
         sections = g.sections;
@@ -134,15 +134,15 @@ module _ (y : sizes.Yard) (bs : Boxes) (z : model.Yard) (n : ℕ) (b : Box) (in-
   shown_now l g = ap (λ (e : model.Engine). e.shown) (g.holds.engines j.0 one_of_lem).same ∙ shows
 
   tell_if : (l : Log) (to : BoxNumber) (x c : ℕ) (s : Section) (t : Bool) → holds_at b.home j s ≡ t → (g : Going y bs z n b l) → HasBegun g.now x c (number_of s) →
-      Going y bs z n b (cond t (sent l to (message.Sign (engine x) c j v)) l)
+      Going y bs z n b (cond t (sent l to (message.Sign (record { to = engine x; count = c; by = j; sign = v }))) l)
   tell_if l to x c s true q g h = going_told y bs z n b l to (engine x) c j v (number_of s) g h (rw g.sections (held s q)) (shown_now l g)
   tell_if l to x c s false q g h = g
 
-  tell_noted_lem : (l : Log) (x : ℕ) (m : Note) → note_at b.home (engine x) ≡ m → Going y bs z n b l → Going y bs z n b (tell_noted b.home j v (engine x) m l)
-  tell_noted_lem l x note.Nothing q g = g
-  tell_noted_lem l x (note.Waits s c) q g =
-      tell_if l _ x c s (holds_at b.home j s) refl g
-      (g.holds.notes n x s c in-yard (ap (λ (a : Box). note_at a.home (engine x)) (put_here n b bs) ∙ q))
+  tell_noted_lem : (l : Log) (x : ℕ) (m : Noted) → note_at b.home (engine x) ≡ m → Going y bs z n b l → Going y bs z n b (tell_noted b.home j v (engine x) m l)
+  tell_noted_lem l x None q g = g
+  tell_noted_lem l x (Some seen) q g =
+      tell_if l _ x seen.count seen.section (holds_at b.home j seen.section) refl g
+      (g.holds.notes n x seen.section seen.count in-yard (ap (λ (a : Box). note_at a.home (engine x)) (put_here n b bs) ∙ q))
 
   pub tells_going : (l : Log) → Going y bs z n b l → Going y bs z n b (tells_of b.home j v l)
   tells_going l g = each_going y bs z n b (λ x. tell_of b.home j v (engine x)) (λ x k i. tell_noted_lem k x (note_at b.home (engine x)) refl i) b.home.yard.engines l g

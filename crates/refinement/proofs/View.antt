@@ -1,4 +1,5 @@
 -- What ties boxes, and all messages ever sent, to the model of the yard: the invariant that every input of a box keeps.
+use Rattle.std.specs.Prelude.{Some}
 use Rattle.std.proofs.Common.{◌≡◌, ℕ, ◌+◌, ◌*◌, ◌%◌, ◌<◌, ◌≤◌, true, ◌⊎◌, List, length, get_or}
 use Rattle.messages.specs.declared.yard.BoxNumber.{BoxNumber}
 use Rattle.messages.specs.declared.yard.Section.{Section}
@@ -6,8 +7,7 @@ use Rattle.messages.specs.declared.yard.Yard as sizes
 use Rattle.messages.specs.declared.message.Act.{Act}
 use Rattle.messages.specs.declared.message.Act.TheVariants as act
 use Rattle.messages.specs.declared.message.Call.{Call}
-use Rattle.messages.specs.declared.message.Holder.{Holder}
-use Rattle.messages.specs.declared.message.Holder.TheVariants as holder
+use Rattle.messages.specs.Holder.{Holder}
 use Rattle.messages.specs.declared.message.Message.{Message}
 use Rattle.messages.specs.declared.message.Message.TheVariants as message
 use Rattle.messages.specs.declared.message.Refusal.TheVariants as refusal
@@ -16,8 +16,7 @@ use Rattle.messages.specs.declared.message.Reply.TheVariants as reply
 use Rattle.messages.specs.Range.{SectionIn, HolderIn}
 use Rattle.sections.specs.Table.{place_at}
 use Rattle.sections.specs.Table as table
-use Rattle.signs.specs.declared.Wait.{Wait}
-use Rattle.signs.specs.declared.Wait.TheVariants.{For}
+use Rattle.signs.specs.Signs.{Wait}
 use Rattle.signs.specs.Table as signs
 use Rattle.engine_state.specs.declared.state.Event.{Event}
 use Rattle.engine_state.specs.declared.state.Event.TheVariants as event
@@ -27,13 +26,12 @@ use Rattle.engine_state.specs.declared.state.Mode.{Mode}
 use Rattle.engine_state.specs.declared.state.Mode.TheVariants as mode
 use Rattle.engine_state.specs.declared.state.State.{State}
 use Rattle.engine_state.specs.Places.{has_of}
-use Rattle.keeper.specs.declared.Answer.{Answer}
+use Rattle.messages.specs.declared.message.Answer.{Answer}
 use Rattle.keeper.specs.declared.LastCall.{LastCall}
 use Rattle.keeper.specs.declared.Verdict.{Verdict}
 use Rattle.keeper.specs.declared.Verdict.TheVariants as verdict
 use Rattle.keeper.specs.Model.{last_of}
 use Rattle.keeper.specs.Calls.{call_of}
-use Rattle.home.specs.declared.home.Note.TheVariants as note
 use Rattle.home.specs.Home.{at}
 use Rattle.home.specs.Queries.{engine, note_at}
 use Rattle.home_laws.specs.Steps as homes
@@ -79,7 +77,7 @@ pub record SectionAs (s : table.Section) (x : model.Section) : Type 0 where
 -- an engine stands in a queue, or has the section by now, and whom an answer names had the section at the change that it names, since the engine came
 pub record Stands (z : model.Yard) (e s : ℕ) (h : Holder) (m : ℕ) : Type 0 where
   pub whom : ℕ
-  pub named : h ≡ holder.Engine (engine whom)
+  pub named : h ≡ Some (engine whom)
   pub other : e ≡ whom → ⊥
   pub place : Queued z e s ⊎ (model.holder z s ≡ by e)
   pub since : (z.section s).came e ≤ m
@@ -100,7 +98,7 @@ FreeMeans z e s (reply.Refused r) = ⊥
 abbrev pub GiveUpMeans : model.Yard → ℕ → ℕ → Answer → Reply → Type 0
 GiveUpMeans z e s a reply.Done = Queued z e s → ⊥
 GiveUpMeans z e s a reply.Waits = ⊥
-GiveUpMeans z e s a (reply.Refused r) = (Queued z e s → ⊥) × (a.holder ≡ holder.Engine (engine e) → model.holder z s ≡ by e)
+GiveUpMeans z e s a (reply.Refused r) = (Queued z e s → ⊥) × (a.holder ≡ Some (engine e) → model.holder z s ≡ by e)
 
 abbrev pub Means : model.Yard → ℕ → Act → ℕ → Answer → Type 0
 Means z e act.Take s a = TakeMeans z e s a a.reply
@@ -147,7 +145,7 @@ Ended z e last known.Closed (mode.Waiting s c) = ⊥
 abbrev pub ModeIn : sizes.Yard → Mode → Wait → Type 0
 ModeIn y mode.Idle w = Unit {0}
 ModeIn y (mode.Called a s n) w = SectionIn y s
-ModeIn y (mode.Waiting s c) w = SectionIn y s × ((j : ℕ) × (w ≡ For j) × (j < y.engines))
+ModeIn y (mode.Waiting s c) w = SectionIn y s × ((j : ℕ) × (w ≡ Some j) × (j < y.engines))
 
 -- an engine that has a section has it by what its home's file keeps, or by what its last record is about
 abbrev pub About : Section → Mode → Type 0
@@ -173,7 +171,7 @@ pub record EngineAs (y : sizes.Yard) (last : ℕ → LastCall) (x : State) (z : 
 pub record As (y : sizes.Yard) (bs : Boxes) (z : model.Yard) : Type 0 where
   pub sections : (b p : ℕ) → b < y.boxes → p < 64 → SectionAs (place_at (bs b).keeper.table p) (z.section (b * 64 + p))
   pub engines : (e : ℕ) → e < y.engines → EngineAs y (λ b. last_at bs b e) (state_in y bs e) z e
-  pub notes : (b e : ℕ) (s : Section) (c : ℕ) → b < y.boxes → note_at (bs b).home (engine e) ≡ note.Waits s c → HasBegun z e c (number_of s)
+  pub notes : (b e : ℕ) (s : Section) (c : ℕ) → b < y.boxes → note_at (bs b).home (engine e) ≡ Some (record { section = s; count = c }) → HasBegun z e c (number_of s)
 
 -- a call that was sent: its number was used, and if it is the engine's last number, it is the last call
 abbrev pub SameCall : Call → Mode → Type 0
@@ -191,26 +189,26 @@ AnswerStands last n a = (n < last.number) ⊎ (((n ≡ last.number) × (last.ans
 -- a message that was sent by a box is true, now and later
 abbrev pub True : sizes.Yard → Boxes → model.Yard → BoxNumber → Message → Type 0
 True y bs z from (message.Call c) = WasCalled (state_in y bs c.engine.0) c
-True y bs z from (message.Answer e n r h c) = AnswerStands (last_at bs from.0 e.0) n (record { reply = r; holder = h; change = c })
-True y bs z from (message.Change s h c) = ((z.section (number_of s)).past c ≡ holder_told h) × (c ≤ (z.section (number_of s)).change)
+True y bs z from (message.Answer e n answer) = AnswerStands (last_at bs from.0 e.0) n answer
+True y bs z from (message.Change news) = ((z.section (number_of news.section)).past news.change ≡ holder_told news.holder) × (news.change ≤ (z.section (number_of news.section)).change)
 True y bs z from (message.WhichChange e s) = Unit {0}
-True y bs z from (message.Sign t n b s) = Told z t.0 n b.0 s
-True y bs z from (message.Waits e s n c) = HasBegun z e.0 n (number_of s)
+True y bs z from (message.Sign telling) = Told z telling.to.0 telling.count telling.by.0 telling.sign
+True y bs z from (message.Waits waiting) = HasBegun z waiting.engine.0 waiting.count (number_of waiting.section)
 
 -- a call is to a box of the yard
 abbrev pub ToABox : sizes.Yard → Message → Type 0
 ToABox y (message.Call c) = c.section.keeper.0 < y.boxes
-ToABox y (message.Answer e n r h c) = Unit {0}
-ToABox y (message.Change s h c) = Unit {0}
+ToABox y (message.Answer e n answer) = Unit {0}
+ToABox y (message.Change news) = Unit {0}
 ToABox y (message.WhichChange e s) = Unit {0}
-ToABox y (message.Sign t n b s) = Unit {0}
-ToABox y (message.Waits e s n c) = Unit {0}
+ToABox y (message.Sign telling) = Unit {0}
+ToABox y (message.Waits waiting) = Unit {0}
 
 -- what comes to a home may come: messages are true
 abbrev pub MayCome : sizes.Yard → Boxes → model.Yard → homes.Input → Type 0
 MayCome y bs z (homes.take e s) = Unit {0}
 MayCome y bs z (homes.free e s) = Unit {0}
-MayCome y bs z (homes.answer from e n r h c) = True y bs z from (message.Answer e n r h c) × HolderIn y h × (from.0 < y.boxes)
+MayCome y bs z (homes.answer from e n r h c) = True y bs z from (message.Answer e n (record { reply = r; holder = h; change = c })) × HolderIn y h × (from.0 < y.boxes)
 MayCome y bs z (homes.change e s h c) = ((z.section (number_of s)).past c ≡ holder_told h) × (c ≤ (z.section (number_of s)).change) × HolderIn y h
 MayCome y bs z (homes.sign from e count teller s) = Told z e.0 count teller.0 s
 MayCome y bs z (homes.waits e s count) = HasBegun z e.0 count (number_of s)
@@ -224,9 +222,9 @@ EventTrue y z x u (event.Had e s) = model.holder z (number_of s) ≡ by e.0
 EventTrue y z x u event.Closed = Unit {0}
 EventTrue y z x u (event.Called c) = (c.engine.0 < y.engines) × SectionIn y c.section × WasCalled (x c.engine.0) c
 EventTrue y z x u (event.Found c) = (c.engine.0 < y.engines) × SectionIn y c.section × WasCalled (x c.engine.0) c × ((j : ℕ) × Finds z c.engine.0 j (number_of c.section))
-EventTrue y z x u (event.Began e s change whom count own) = (e.0 < y.engines) × HasBegun u e.0 count (number_of s) × ((x e.0).signs.shown ≡ own)
+EventTrue y z x u (event.Began start) = (start.engine.0 < y.engines) × HasBegun u start.engine.0 start.count (number_of start.section) × ((x start.engine.0).signs.shown ≡ start.own)
 EventTrue y z x u (event.Heard e sign) = (e.0 < y.engines) × ((x e.0).signs.shown ≡ sign)
-EventTrue y z x u (event.Noted to count teller sign) = (s : Section) × HasBegun u to.0 count (number_of s) × (model.holder u (number_of s) ≡ by teller.0) × (model.shown u teller.0 ≡ sign)
+EventTrue y z x u (event.Noted telling) = (s : Section) × HasBegun u telling.to.0 telling.count (number_of s) × (model.holder u (number_of s) ≡ by telling.by.0) × (model.shown u telling.by.0 ≡ telling.sign)
 
 -- one engine's own step, from x to what p has, is a run of the model in which no other engine and no section changes
 pub record OwnStep (y : sizes.Yard) (last : ℕ → LastCall) (z : model.Yard) (e : ℕ) (x : State) (p : State × Event) : Type 0 where
@@ -251,7 +249,7 @@ pub record HomeStep (y : sizes.Yard) (bs : Boxes) (z : model.Yard) (n : ℕ) (i 
 
 -- what a verdict answers is true
 abbrev pub AnswerTrue : sizes.Yard → Boxes → model.Yard → ℕ → Call → Answer → Type 0
-AnswerTrue y bs z n c a = True y bs z (record { 0 = n }) (message.Answer c.engine c.number a.reply a.holder a.change)
+AnswerTrue y bs z n c a = True y bs z (record { 0 = n }) (message.Answer c.engine c.number a)
 
 abbrev pub VerdictTrue : sizes.Yard → Boxes → model.Yard → ℕ → Call → Verdict → Type 0
 VerdictTrue y bs z n c verdict.Malformed = Unit {0}
@@ -260,7 +258,7 @@ VerdictTrue y bs z n c (verdict.Again a) = AnswerTrue y bs z n c a
 VerdictTrue y bs z n c (verdict.AtLimit a) = AnswerTrue y bs z n c a
 VerdictTrue y bs z n c (verdict.Refused r a) = AnswerTrue y bs z n c a
 VerdictTrue y bs z n c (verdict.Done a) = AnswerTrue y bs z n c a
-VerdictTrue y bs z n c (verdict.PassedOn a) = AnswerTrue y bs z n c a × True y bs z (record { 0 = n }) (message.Change c.section a.holder a.change)
+VerdictTrue y bs z n c (verdict.PassedOn a) = AnswerTrue y bs z n c a × True y bs z (record { 0 = n }) (message.Change (record { section = c.section; holder = a.holder; change = a.change }))
 
 -- one call at a section's box is a run of the model, and keeps all this
 pub record KeeperStep (y : sizes.Yard) (bs : Boxes) (z : model.Yard) (n : ℕ) (c : Call) : Type 0 where

@@ -1,14 +1,11 @@
 -- How what boxes have is read in the model of the yard: sections by number, holders and modes. Assumes nothing.
-use Rattle.std.specs.Prelude.{ℕ, ◌+◌, ◌*◌}
+use Rattle.std.specs.Prelude.{ℕ, ◌+◌, ◌*◌, None, Some}
 use Rattle.messages.specs.declared.yard.Section.{Section}
 use Rattle.messages.specs.declared.message.Act.{Act}
 use Rattle.messages.specs.declared.message.Act.TheVariants as act
-use Rattle.messages.specs.declared.message.Holder.{Holder}
-use Rattle.messages.specs.declared.message.Holder.TheVariants as holder
-use Rattle.sections.specs.declared.Holder.{Holder as SectionHolder}
-use Rattle.sections.specs.declared.Holder.TheVariants as has
-use Rattle.signs.specs.declared.Wait.{Wait}
-use Rattle.signs.specs.declared.Wait.TheVariants.{Nobody, For}
+use Rattle.messages.specs.Holder.{Holder}
+use Rattle.sections.specs.Table.{Holder as SectionHolder}
+use Rattle.signs.specs.Signs.{Wait}
 use Rattle.engine_state.specs.declared.state.Mode.{Mode}
 use Rattle.engine_state.specs.declared.state.Mode.TheVariants as mode
 use Rattle.engine_state.specs.declared.state.State.{State}
@@ -20,13 +17,13 @@ number_of s = s.keeper.0 * 64 + s.place
 
 -- who has a section, by its box
 abbrev pub holder_by : SectionHolder → model.Holder
-holder_by has.Free = model.free
-holder_by (has.Engine e) = model.by e
+holder_by None = model.free
+holder_by (Some e) = model.by e
 
 -- who has a section, by a message
 abbrev pub holder_told : Holder → model.Holder
-holder_told holder.Nobody = model.free
-holder_told (holder.Engine e) = model.by e.0
+holder_told None = model.free
+holder_told (Some e) = model.by e.0
 
 abbrev pub called_mode : Act → ℕ → model.Mode
 called_mode act.Take s = model.asking s
@@ -34,8 +31,8 @@ called_mode act.Free s = model.freeing s
 called_mode act.GiveUp s = model.leaving s
 
 abbrev pub waiting_mode : Wait → ℕ → ℕ → model.Mode
-waiting_mode Nobody s change = model.none
-waiting_mode (For j) s change = model.waiting j s change
+waiting_mode None s change = model.none
+waiting_mode (Some j) s change = model.waiting j s change
 
 -- the last of an engine's own records, as the model has it
 abbrev pub mode_by : Mode → Wait → model.Mode

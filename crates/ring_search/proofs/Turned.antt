@@ -1,14 +1,13 @@
 -- A ring turned round to any of its engines is a ring of the same engines, and from one engine there is one ring only.
 -- Assumes nothing.
-use Rattle.std.proofs.Common.{◌≡◌, ℕ, ◌<◌, List, [], ◌∷◌, ◌++◌, length, refl, ap, inl, inr, append_assoc, arith}
+use Rattle.std.proofs.Common.{◌≡◌, ℕ, ◌<◌, List, [], ◌∷◌, ◌++◌, length, refl, ap, inl, inr, append_assoc, arith, Some}
 use mathlib.Core.List.Memᴰ
 use mathlib.Core.List.{Memᴰ}
-use Rattle.signs.specs.declared.Wait.{Wait}
-use Rattle.signs.specs.declared.Wait.TheVariants.{For}
+use Rattle.signs.specs.Signs.{Wait}
 use Rattle.ring_search.specs.Exactly.{Links, Apart, IsRing}
 use Rattle.ring_search.proofs.Lists.{mem_snoc, apart_snoc}
 
-pub for_same : {w : Wait} {i j : ℕ} → w ≡ For i → w ≡ For j → i ≡ j
+pub for_same : {w : Wait} {i j : ℕ} → w ≡ Some i → w ≡ Some j → i ≡ j
 for_same p q = cc
 
 -- the same engines stand in both lists
@@ -22,7 +21,7 @@ alike_one a xs = (
 )
 
 module _ (w : ℕ → Wait) where
-  link_snoc : (a z u : ℕ) (cs : List ℕ) → Links w a cs z → w z ≡ For u → Links w a (cs ++ z ∷ []) u
+  link_snoc : (a z u : ℕ) (cs : List ℕ) → Links w a cs z → w z ≡ Some u → Links w a (cs ++ z ∷ []) u
   link_snoc a z u [] h e = (h, e)
   link_snoc a z u (b ∷ bs) h e = (h.0, link_snoc b z u bs h.1 e)
 
@@ -77,6 +76,6 @@ module _ (w : ℕ → Wait) where
   )
 
   -- everyone on a way waits
-  pub way_waits : (x z y : ℕ) (xs : List ℕ) → Links w x xs z → Memᴰ y (x ∷ xs) → (u : ℕ) × (w y ≡ For u)
+  pub way_waits : (x z y : ℕ) (xs : List ℕ) → Links w x xs z → Memᴰ y (x ∷ xs) → (u : ℕ) × (w y ≡ Some u)
   way_waits x z y [] h m = elim (Memᴰ.cases_cons m) [ inl e ↦ (z, rw e h) | inr k ↦ absurd (Memᴰ.not-nil k) ]
   way_waits x z y (a ∷ cs) h m = elim (Memᴰ.cases_cons m) [ inl e ↦ (a, rw e h.0) | inr k ↦ way_waits a z y cs h.1 k ]

@@ -1,15 +1,14 @@
 -- What the rings of a table are, apart from any search for them.
 -- Assumes nothing.
-use Rattle.std.specs.Prelude.{◌≡◌, ℕ, ◌<◌, ◌≤◌, List, [], ◌∷◌}
+use Rattle.std.specs.Prelude.{◌≡◌, ℕ, ◌<◌, ◌≤◌, List, [], ◌∷◌, Some}
 use mathlib.Core.List.{Memᴰ}
-use Rattle.signs.specs.declared.Wait.{Wait}
-use Rattle.signs.specs.declared.Wait.TheVariants.{For}
+use Rattle.signs.specs.Signs.{Wait}
 use Rattle.ring_search.specs.Search.{Judged}
 
 -- each engine waits for the next, and the last for a given one
 abbrev pub Links : (ℕ → Wait) → ℕ → List ℕ → ℕ → Type 0
-Links w x [] z = w x ≡ For z
-Links w x (y ∷ ys) z = (w x ≡ For y) × Links w y ys z
+Links w x [] z = w x ≡ Some z
+Links w x (y ∷ ys) z = (w x ≡ Some y) × Links w y ys z
 
 -- none stands twice
 abbrev pub Apart : List ℕ → Type 0

@@ -1,8 +1,7 @@
 -- Until the ring is found its engines keep their waits, and each that the sign has come to shows it or a higher one: so it comes round as it was.
 -- Assumes nothing.
-use Rattle.std.proofs.Common.{◌≡◌, ℕ, ◌%◌, ◌<◌, ◌≤◌, ◌⊎◌, sym, refl, ap, ◌∙◌, inl, inr, arith}
+use Rattle.std.proofs.Common.{◌≡◌, ℕ, ◌%◌, ◌<◌, ◌≤◌, ◌⊎◌, sym, refl, ap, ◌∙◌, inl, inr, arith, Some}
 use mathlib.Core.List.{Memᴰ}
-use Rattle.signs.specs.declared.Wait.TheVariants.{For}
 use Rattle.signs.specs.Signs.{showing}
 use Rattle.rings.specs.Net.{Net, with, Came, Finds, Step, Run, onward, Reach, Along, one, more, InRing, Highest, FoundIn, Stage, shows, underway, Carried, opens, meanwhile, tell_on, heard, passed}
 use Rattle.rings.specs.Promise.{FoundInAnyRun}
@@ -24,7 +23,7 @@ each_keeps {n = n} {m = m} {i = i} {l = l} step ring (more j w b) =
     onwards : Keeps n m i → Each (λ x. Keeps n m x) b ⊎ ((f : ℕ) × ((j ≡ f) ⊎ Along n j f) × FindsNow n m f) →
         Each (λ x. Keeps n m x) (more j w b) ⊎ ((f : ℕ) × ((i ≡ f) ⊎ Along n i f) × FindsNow n m f)
     onwards e (inl c) = inl (e, c)
-    onwards e (inr f) = inr (f.0, inr (elim f.1 [ inl q ↦ one (w ∙ ap For q) | inr c ↦ more j w c ]), f.2)
+    onwards e (inr f) = inr (f.0, inr (elim f.1 [ inl q ↦ one (w ∙ ap Some q) | inr c ↦ more j w c ]), f.2)
 
 -- the whole ring is as before, or one of it finds
 ring_keeps : {engines : ℕ} {n m : Net} {k : ℕ} → Step engines n m → InRing n k → Intact n m k ⊎ ((f : ℕ) × Along n k f × FindsNow n m f)
@@ -50,7 +49,7 @@ finder_is {engines} {n} {k} {f} {j} r ring high p found =
 -- how far the sign has come, for an engine of the ring
 abbrev At : Net → Net → ℕ → Stage → Type 0
 At n m k (shows x) = Along n k x → (n.engine k).own ≤ (m.engine x).shown
-At n m k (underway y x s) = Along n k y → ((n.engine k).own ≤ s) × Came m y x s × ((n.engine y).wait ≡ For x)
+At n m k (underway y x s) = Along n k y → ((n.engine k).own ≤ s) × Came m y x s × ((n.engine y).wait ≡ Some x)
 
 module _ {engines : ℕ} {n : Net} (k : ℕ) (reach : Reach engines n) (ring : InRing n k) (high : Highest n k k) where
   -- while the ring is intact a step leaves the sign where it has come to, or lets it be shown by a higher one

@@ -1,10 +1,9 @@
 -- What an engine shows comes from an own sign as high, further along its waits, or from one that doesn't wait: in a ring, from an own sign of the ring.
 -- Assumes nothing.
-use Rattle.std.proofs.Common.{◌≡◌, ℕ, ◌≤◌, ◌⊎◌, refl, ap, ◌∙◌, inl, inr, arith}
+use Rattle.std.proofs.Common.{◌≡◌, ℕ, ◌≤◌, ◌⊎◌, refl, ap, ◌∙◌, inl, inr, arith, None, Some}
 use mathlib.Core.List.Memᴰ
 use mathlib.Core.List.{Memᴰ}
 use Rattle.std.proofs.lemmas.Bool.{cases_lt}
-use Rattle.signs.specs.declared.Wait.TheVariants.{Nobody, For}
 use Rattle.rings.specs.Net.{Tell, Net, Step, Reach, still, onward, Along, one, more, InRing, Highest}
 use Rattle.rings.proofs.Did.{Did, same, began, left, heard, found, did, said, for_nobody, for_same}
 use Rattle.rings.proofs.Tidy.{Tidy, tidy, wait_of, shown_of, own_of, own_rises}
@@ -12,22 +11,22 @@ use Rattle.rings.proofs.Stays.{join, rotate, turn, waits}
 
 pub data Covered (n : Net) (s : ℕ) : ℕ → Type 0 where
   by_own : {x : ℕ} → s ≤ (n.engine x).own → Covered n s x
-  by_free : {x : ℕ} → (n.engine x).wait ≡ Nobody → s ≤ (n.engine x).shown → Covered n s x
-  by_next : {x : ℕ} (y : ℕ) → (n.engine x).wait ≡ For y → s ≤ (n.engine x).shown → Covered n s y → Covered n s x
+  by_free : {x : ℕ} → (n.engine x).wait ≡ None → s ≤ (n.engine x).shown → Covered n s x
+  by_next : {x : ℕ} (y : ℕ) → (n.engine x).wait ≡ Some y → s ≤ (n.engine x).shown → Covered n s y → Covered n s x
 
 pub record AllCovered (n : Net) : Type 0 where
   pub shows : (x : ℕ) → Covered n (n.engine x).shown x
   pub told : (t : Tell) → Memᴰ t n.sent → Covered n t.sign t.by
 
 module _ {engines : ℕ} {n m : Net} (order : Tidy engines n) (step : Step engines n m) where
-  free_kept : {s x : ℕ} → (n.engine x).wait ≡ Nobody → s ≤ (n.engine x).shown → Did engines n m x → Covered m s x
+  free_kept : {s x : ℕ} → (n.engine x).wait ≡ None → s ≤ (n.engine x).shown → Did engines n m x → Covered m s x
   free_kept f h (same q) = by_free (wait_of q ∙ f) (omega (arith, shown_of q))
   free_kept f h (began j u a b w up l q) = by_own (omega (arith, own_of q))
   free_kept f h (left j w g q) = absurd (for_nobody w f)
   free_kept f h (heard j s c w up q) = absurd (for_nobody w f)
   free_kept f h (found j g q) = absurd (for_nobody g.1 f)
 
-  next_kept : {s x : ℕ} (y : ℕ) → (n.engine x).wait ≡ For y → s ≤ (n.engine x).shown → Covered m s y → Did engines n m x → Covered m s x
+  next_kept : {s x : ℕ} (y : ℕ) → (n.engine x).wait ≡ Some y → s ≤ (n.engine x).shown → Covered m s y → Did engines n m x → Covered m s x
   next_kept y w h c (same q) = by_next y (wait_of q ∙ w) (omega (arith, shown_of q)) c
   next_kept y w h c (began j u a b f up l q) = absurd (for_nobody w f)
   next_kept y w h c (left j v g q) = by_free (wait_of q) (omega (arith, shown_of q))
@@ -107,7 +106,7 @@ top {n} (more {i = i} j w a) = higher (top a)
     higher t =
         elim (cases_lt (n.engine t.0).own (n.engine i).own) [
           | inl up ↦ (i, inl refl, (omega arith, each_up _ _ (λ x h. omega arith) a t.2))
-          | inr down ↦ (t.0, inr (elim t.1 [ inl q ↦ one (w ∙ ap For q) | inr p ↦ more j w p ]), (down, t.2))
+          | inr down ↦ (t.0, inr (elim t.1 [ inl q ↦ one (w ∙ ap Some q) | inr p ↦ more j w p ]), (down, t.2))
         ]
 
 -- every ring has an engine with the highest own sign

@@ -1,28 +1,27 @@
 -- A step seen from one engine: what it did, with one equation for each field, so that no update is ever unfolded again.
 -- Assumes nothing.
-use Rattle.std.proofs.Common.{◌≡◌, ℕ, ◌%◌, ◌<◌, eqb, ◌⊎◌, refl, inl, inr, arith}
+use Rattle.std.proofs.Common.{◌≡◌, ℕ, ◌%◌, ◌<◌, eqb, ◌⊎◌, refl, inl, inr, arith, None, Some}
 use mathlib.Core.List.Memᴰ
 use mathlib.Core.List.{Memᴰ}
 use Rattle.std.proofs.lemmas.Bool.{cases_eq, cond-true, cond-false, eq-eqb, ne_eqb}
-use Rattle.signs.specs.declared.Wait.{Wait}
-use Rattle.signs.specs.declared.Wait.TheVariants.{Nobody, For}
+use Rattle.signs.specs.Signs.{Wait}
 use Rattle.signs.specs.declared.Engine.{Engine}
 use Rattle.signs.specs.Signs.{begun, showing, idle}
 use Rattle.rings.specs.Net.{Tell, Net, with, Came, Finds, Step, begins, goes_on, tells, hears, finds}
 
 -- who waits for one waits for no other
-pub for_same : {w : Wait} {i j : ℕ} → w ≡ For i → w ≡ For j → i ≡ j
+pub for_same : {w : Wait} {i j : ℕ} → w ≡ Some i → w ≡ Some j → i ≡ j
 for_same p q = cc
 
-pub for_nobody : {w : Wait} {i : ℕ} → w ≡ For i → w ≡ Nobody → ⊥
+pub for_nobody : {w : Wait} {i : ℕ} → w ≡ Some i → w ≡ None → ⊥
 for_nobody p q = let z : ◌≡◌ {A = ℕ} 0 1 = cc in omega arith
 
 pub data Did (engines : ℕ) (n m : Net) (x : ℕ) : Type 0 where
   same : m.engine x ≡ n.engine x → Did engines n m x
-  began : (j u : ℕ) → x < engines → j < engines → (n.engine x).wait ≡ Nobody → (n.engine x).shown < u → u % engines ≡ x →
+  began : (j u : ℕ) → x < engines → j < engines → (n.engine x).wait ≡ None → (n.engine x).shown < u → u % engines ≡ x →
       m.engine x ≡ begun (n.engine x) j u → Did engines n m x
-  left : (j : ℕ) → (n.engine x).wait ≡ For j → (n.engine j).wait ≡ Nobody → m.engine x ≡ idle (n.engine x) → Did engines n m x
-  heard : (j s : ℕ) → Came n x j s → (n.engine x).wait ≡ For j → (n.engine x).shown < s → m.engine x ≡ showing (n.engine x) s → Did engines n m x
+  left : (j : ℕ) → (n.engine x).wait ≡ Some j → (n.engine j).wait ≡ None → m.engine x ≡ idle (n.engine x) → Did engines n m x
+  heard : (j s : ℕ) → Came n x j s → (n.engine x).wait ≡ Some j → (n.engine x).shown < s → m.engine x ≡ showing (n.engine x) s → Did engines n m x
   found : (j : ℕ) → Finds n x j → m.engine x ≡ idle (n.engine x) → Did engines n m x
 
 -- only the engine in the place that changed did anything
@@ -45,7 +44,7 @@ did (finds n i j f) x = at_place n i (idle (n.engine i)) x (λ e. found j f e)
 -- what was told before the step, or is told in it
 abbrev pub Said : Net → Net → Tell → Type 0
 Said n m t =
-    Memᴰ t n.sent ⊎ ((t.sign ≡ (m.engine t.by).shown) × ((m.engine t.to).wait ≡ For t.by))
+    Memᴰ t n.sent ⊎ ((t.sign ≡ (m.engine t.by).shown) × ((m.engine t.to).wait ≡ Some t.by))
 
 pub said : {engines : ℕ} {n m : Net} → Step engines n m → (t : Tell) → Memᴰ t m.sent → Said n m t
 said (begins n i j u low whom apart free up leaves) t h = inl h

@@ -1,9 +1,8 @@
 -- Whoever shows or told the own sign of one that waits stands in a chain of waits that leads to that one; and none of the chain can let go before it.
 -- Assumes nothing.
-use Rattle.std.proofs.Common.{◌≡◌, ℕ, ◌%◌, ◌<◌, ◌≤◌, sym, refl, ap, ◌∙◌, inl, inr, arith}
+use Rattle.std.proofs.Common.{◌≡◌, ℕ, ◌%◌, ◌<◌, ◌≤◌, sym, refl, ap, ◌∙◌, inl, inr, arith, None, Some}
 use mathlib.Core.List.Memᴰ
 use mathlib.Core.List.{Memᴰ}
-use Rattle.signs.specs.declared.Wait.TheVariants.{Nobody, For}
 use Rattle.rings.specs.Net.{Tell, Net, start, Step, Reach, still, onward, Finds, Along, one, more}
 use Rattle.rings.specs.Promise.{AlwaysReal, OnlyHighest, OneFinder}
 use Rattle.rings.proofs.Did.{Did, same, began, left, heard, found, did, Said, said, for_nobody, for_same}
@@ -12,17 +11,17 @@ use Rattle.rings.proofs.Tidy.{Tidy, tidy, wait_of, shown_of, own_of}
 -- from x waits lead to z, and all on the way show z's own sign or a higher one, and have lower ones of their own
 pub data Relays (n : Net) (z : ℕ) : ℕ → Type 0 where
   here : Relays n z z
-  via : {x : ℕ} (y : ℕ) → (n.engine x).wait ≡ For y → (n.engine x).own < (n.engine z).own → (n.engine z).own ≤ (n.engine x).shown → Relays n z y →
+  via : {x : ℕ} (y : ℕ) → (n.engine x).wait ≡ Some y → (n.engine x).own < (n.engine z).own → (n.engine z).own ≤ (n.engine x).shown → Relays n z y →
       Relays n z x
 
-relayer_waits : {n : Net} {z x v : ℕ} → (n.engine z).wait ≡ For v → Relays n z x → (n.engine x).wait ≡ Nobody → ⊥
+relayer_waits : {n : Net} {z x v : ℕ} → (n.engine z).wait ≡ Some v → Relays n z x → (n.engine x).wait ≡ None → ⊥
 relayer_waits w here f = for_nobody w f
 relayer_waits w (via y e lt le r) f = for_nobody e f
 
 -- what is at x: who shows or told z's own sign relays it
 pub record Relayed (engines : ℕ) (n : Net) : Type 0 where
-  pub shows : (z v : ℕ) → (n.engine z).wait ≡ For v → (x : ℕ) → x < engines → (n.engine x).shown ≡ (n.engine z).own → Relays n z x
-  pub told : (z v : ℕ) → (n.engine z).wait ≡ For v → (t : Tell) → Memᴰ t n.sent → t.sign ≡ (n.engine z).own → Relays n z t.by
+  pub shows : (z v : ℕ) → (n.engine z).wait ≡ Some v → (x : ℕ) → x < engines → (n.engine x).shown ≡ (n.engine z).own → Relays n z x
+  pub told : (z v : ℕ) → (n.engine z).wait ≡ Some v → (t : Tell) → Memᴰ t n.sent → t.sign ≡ (n.engine z).own → Relays n z t.by
 
 relayed_start : (engines : ℕ) → Relayed engines start
 relayed_start engines =
@@ -30,10 +29,10 @@ relayed_start engines =
 
 -- z waits as before, or has begun in this step
 data Since (engines : ℕ) (n m : Net) (z : ℕ) : Type 0 where
-  before : (v : ℕ) → (n.engine z).wait ≡ For v → (m.engine z).own ≡ (n.engine z).own → Since engines n m z
+  before : (v : ℕ) → (n.engine z).wait ≡ Some v → (m.engine z).own ≡ (n.engine z).own → Since engines n m z
   now : z < engines → (n.engine z).shown < (m.engine z).own → (m.engine z).own % engines ≡ z → Since engines n m z
 
-since : {engines : ℕ} {n m : Net} {z v : ℕ} → (m.engine z).wait ≡ For v → Did engines n m z → Since engines n m z
+since : {engines : ℕ} {n m : Net} {z v : ℕ} → (m.engine z).wait ≡ Some v → Did engines n m z → Since engines n m z
 since {v = v} w (same q) = before v (sym (wait_of q) ∙ w) (own_of q)
 since w (began j u a b f up l q) = now a (rw (own_of q) up) (rw (own_of q) l)
 since w (left j e f q) = absurd (for_nobody w (wait_of q))
@@ -42,7 +41,7 @@ since w (found j f q) = absurd (for_nobody w (wait_of q))
 
 module _ {engines : ℕ} {n m : Net} (order : Tidy engines n) (after : Tidy engines m) (old : Relayed engines n) (step : Step engines n m) where
   -- one more of the chain stays in it
-  via_kept : {z x v : ℕ} (y : ℕ) → (n.engine z).wait ≡ For v → (m.engine z).own ≡ (n.engine z).own → (n.engine x).wait ≡ For y →
+  via_kept : {z x v : ℕ} (y : ℕ) → (n.engine z).wait ≡ Some v → (m.engine z).own ≡ (n.engine z).own → (n.engine x).wait ≡ Some y →
       (n.engine x).own < (n.engine z).own → (n.engine z).own ≤ (n.engine x).shown → Relays n z y → Relays m z y → Did engines n m x → Relays m z x
   via_kept y w o e lt le r k (same q) = via y (wait_of q ∙ e) (omega (arith, own_of q)) (omega (arith, shown_of q)) k
   via_kept y w o e lt le r k (began j u a b f up l q) = absurd (for_nobody e f)
@@ -50,7 +49,7 @@ module _ {engines : ℕ} {n m : Net} (order : Tidy engines n) (after : Tidy engi
   via_kept y w o e lt le r k (heard j s c d up q) = via y (wait_of q ∙ e) (omega (arith, own_of q)) (omega (arith, shown_of q)) k
   via_kept y w o e lt le r k (found j f q) = absurd (omega (arith, f.2))
 
-  kept : {z v : ℕ} → (n.engine z).wait ≡ For v → (m.engine z).own ≡ (n.engine z).own → {x : ℕ} → Relays n z x → Relays m z x
+  kept : {z v : ℕ} → (n.engine z).wait ≡ Some v → (m.engine z).own ≡ (n.engine z).own → {x : ℕ} → Relays n z x → Relays m z x
   kept w o here = here
   kept w o (via {x = x} y e lt le r) = via_kept y w o e lt le r (kept w o r) (did step x)
 
@@ -58,7 +57,7 @@ module _ {engines : ℕ} {n m : Net} (order : Tidy engines n) (after : Tidy engi
   fresh : (z s : ℕ) → (n.engine z).shown < s → s % engines ≡ z → s ≤ (n.engine (s % engines)).own → ⊥
   fresh z s up l h = let g : s ≤ (n.engine z).own = rw l at h in omega (arith, order.low z)
 
-  shows_before : {z v x : ℕ} → (n.engine z).wait ≡ For v → (m.engine z).own ≡ (n.engine z).own → x < engines →
+  shows_before : {z v x : ℕ} → (n.engine z).wait ≡ Some v → (m.engine z).own ≡ (n.engine z).own → x < engines →
       (m.engine x).shown ≡ (m.engine z).own → Did engines n m x → Relays m z x
   shows_before {z} {v} {x} w o h e (same q) = kept w o (old.shows z v w x h (sym (shown_of q) ∙ e ∙ o))
   shows_before {z} {v} {x} w o h e (began j u a b f up l q) =
@@ -99,7 +98,7 @@ relayed still = relayed_start _
 relayed (onward r s) = relayed_kept (tidy r) (tidy (onward r s)) (relayed r) s
 
 -- the chain leads along waits, to z
-pub relays_lead : {n : Net} {z x y : ℕ} → (n.engine x).wait ≡ For y → Relays n z y → Along n x z
+pub relays_lead : {n : Net} {z x y : ℕ} → (n.engine x).wait ≡ Some y → Relays n z y → Along n x z
 relays_lead w here = one w
 relays_lead w (via {x = y} v e lt le r) = more y w (relays_lead e r)
 
@@ -111,11 +110,11 @@ pub is_real : AlwaysReal
 is_real engines n r i j f = relays_lead f.1 (finder r i j f)
 
 -- from the chain waits lead only into the chain
-next_relays : {n : Net} {z x y v : ℕ} → (n.engine z).wait ≡ For v → Relays n z v → (n.engine x).wait ≡ For y → Relays n z x → Relays n z y
+next_relays : {n : Net} {z x y v : ℕ} → (n.engine z).wait ≡ Some v → Relays n z v → (n.engine x).wait ≡ Some y → Relays n z x → Relays n z y
 next_relays w c e here = rw (for_same e w) c
 next_relays w c e (via u d lt le r) = rw (for_same e d) r
 
-all_relay : {n : Net} {z v x l : ℕ} → (n.engine z).wait ≡ For v → Relays n z v → Relays n z x → Along n x l → Relays n z l
+all_relay : {n : Net} {z v x l : ℕ} → (n.engine z).wait ≡ Some v → Relays n z v → Relays n z x → Along n x l → Relays n z l
 all_relay w c r (one e) = next_relays w c e r
 all_relay w c r (more y e a) = all_relay w c (next_relays w c e r) a
 

@@ -1,18 +1,17 @@
 -- Everyone in a ring waits for one who waits: so no step but a finding changes the wait, the count or the own sign of any of them.
 -- Assumes nothing.
-use Rattle.std.proofs.Common.{◌≡◌, ℕ, suc, ◌⊎◌, sym, refl, ap, ◌∙◌, inl, inr}
-use Rattle.signs.specs.declared.Wait.TheVariants.{Nobody, For}
+use Rattle.std.proofs.Common.{◌≡◌, ℕ, suc, ◌⊎◌, sym, refl, ap, ◌∙◌, inl, inr, None, Some}
 use Rattle.rings.specs.Net.{Net, Step, Finds, Along, one, more, long, InRing}
 use Rattle.rings.specs.Promise.{RingStays, OwnSigns, OnlyUp}
 use Rattle.rings.proofs.Did.{Did, same, began, left, heard, found, did, for_nobody, for_same}
 use Rattle.rings.proofs.Tidy.{tidy, wait_of, count_of, own_of, shown_rises}
 
 -- one wait more at the end
-pub snoc : {n : Net} {i j k : ℕ} → Along n i j → (n.engine j).wait ≡ For k → Along n i k
+pub snoc : {n : Net} {i j k : ℕ} → Along n i j → (n.engine j).wait ≡ Some k → Along n i k
 snoc (one w) e = more _ w (one e)
 snoc (more y w a) e = more y w (snoc a e)
 
-pub long_snoc : {n : Net} {i j k : ℕ} (a : Along n i j) (e : (n.engine j).wait ≡ For k) → long (snoc a e) ≡ suc (long a)
+pub long_snoc : {n : Net} {i j k : ℕ} (a : Along n i j) (e : (n.engine j).wait ≡ Some k) → long (snoc a e) ≡ suc (long a)
 unfolding snoc
 long_snoc (one w) e = refl
 long_snoc (more y w a) e = ap suc (long_snoc a e)
@@ -23,12 +22,12 @@ join (one w) b = more _ w b
 join (more y w a) b = more y w (join a b)
 
 -- the rest of the way, after its first wait
-pub rest : {n : Net} {i j k : ℕ} (a : Along n i k) → (n.engine i).wait ≡ For j → ((j ≡ k) × (long a ≡ 1)) ⊎ ((b : Along n j k) × (long a ≡ suc (long b)))
+pub rest : {n : Net} {i j k : ℕ} (a : Along n i k) → (n.engine i).wait ≡ Some j → ((j ≡ k) × (long a ≡ 1)) ⊎ ((b : Along n j k) × (long a ≡ suc (long b)))
 rest (one w) e = inl (for_same e w, refl)
 rest (more y w a) e = rw (for_same e w) (inr (a, refl))
 
 -- the ring from its next engine on has as many waits
-pub rotate : {n : Net} {i j : ℕ} (a : InRing n i) → (n.engine i).wait ≡ For j → (b : InRing n j) × (long b ≡ long a)
+pub rotate : {n : Net} {i j : ℕ} (a : InRing n i) → (n.engine i).wait ≡ Some j → (b : InRing n j) × (long b ≡ long a)
 rotate {n} {i} {j} a e =
     elim (rest a e) [
       | inl p ↦ (one (ap (λ (x : ℕ). (n.engine x).wait) p.0 ∙ e), sym p.1)
@@ -47,7 +46,7 @@ home a (more j w c) =
     elim (rest a w) [ inl p ↦ rw (← p.0) (home (rotate a w).0 c) | inr p ↦ join (home (rotate a w).0 c) p.0 ]
 
 -- whoever waits lead on from waits
-pub waits : {n : Net} {i j : ℕ} → Along n i j → (n.engine i).wait ≡ Nobody → ⊥
+pub waits : {n : Net} {i j : ℕ} → Along n i j → (n.engine i).wait ≡ None → ⊥
 waits (one w) f = for_nobody w f
 waits (more y w a) f = for_nobody w f
 
@@ -57,9 +56,9 @@ Keeps n m x = ((m.engine x).wait ≡ (n.engine x).wait) × ((m.engine x).count �
 
 -- an engine finds in a step
 abbrev pub FindsNow : Net → Net → ℕ → Type 0
-FindsNow n m k = (j : ℕ) × Finds n k j × ((m.engine k).wait ≡ Nobody)
+FindsNow n m k = (j : ℕ) × Finds n k j × ((m.engine k).wait ≡ None)
 
-one_keeps : {engines : ℕ} {n m : Net} {x y : ℕ} → (n.engine x).wait ≡ For y → ((n.engine y).wait ≡ Nobody → ⊥) → Did engines n m x → Keeps n m x ⊎ FindsNow n m x
+one_keeps : {engines : ℕ} {n m : Net} {x y : ℕ} → (n.engine x).wait ≡ Some y → ((n.engine y).wait ≡ None → ⊥) → Did engines n m x → Keeps n m x ⊎ FindsNow n m x
 one_keeps w h (same q) = inl (wait_of q, count_of q, own_of q)
 one_keeps w h (began j u a b f up l q) = absurd (for_nobody w f)
 one_keeps w h (left j v f q) = absurd (h (rw (for_same w v) f))
@@ -81,10 +80,10 @@ way_kept {i = i} step a (one w) =
 way_kept {n = n} {m = m} {i = i} {l = l} step a (more j w b) =
     elim (ringed_keeps step a) [ inl e ↦ onwards (e.0 ∙ w) (way_kept step (rotate a w).0 b) | inr f ↦ inr (i, a, inl refl, f) ]
   where
-    onwards : (m.engine i).wait ≡ For j → Along m j l ⊎ ((k : ℕ) × InRing n k × ((j ≡ k) ⊎ Along n j k) × FindsNow n m k) →
+    onwards : (m.engine i).wait ≡ Some j → Along m j l ⊎ ((k : ℕ) × InRing n k × ((j ≡ k) ⊎ Along n j k) × FindsNow n m k) →
         Along m i l ⊎ ((k : ℕ) × InRing n k × ((i ≡ k) ⊎ Along n i k) × FindsNow n m k)
     onwards e (inl c) = inl (more j e c)
-    onwards e (inr f) = inr (f.0, f.1, inr (elim f.2 [ inl q ↦ one (w ∙ ap For q) | inr c ↦ more j w c ]), f.3)
+    onwards e (inr f) = inr (f.0, f.1, inr (elim f.2 [ inl q ↦ one (w ∙ ap Some q) | inr c ↦ more j w c ]), f.3)
 
 pub ring_stays : RingStays
 ring_stays engines n m r step i a =

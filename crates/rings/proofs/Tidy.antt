@@ -1,9 +1,8 @@
 -- Signs keep in order: own signs leave their engine's number, what is shown only rises, and no sign of an engine's number passes its own sign.
 -- Assumes nothing.
-use Rattle.std.proofs.Common.{◌≡◌, ℕ, ◌%◌, ◌<◌, ◌≤◌, sym, refl, ap, ◌∙◌, inl, inr, mod-eq_of_lt, arith}
+use Rattle.std.proofs.Common.{◌≡◌, ℕ, ◌%◌, ◌<◌, ◌≤◌, sym, refl, ap, ◌∙◌, inl, inr, mod-eq_of_lt, arith, Some}
 use mathlib.Core.List.Memᴰ
 use mathlib.Core.List.{Memᴰ}
-use Rattle.signs.specs.declared.Wait.TheVariants.{For}
 use Rattle.signs.specs.declared.Engine.{Engine}
 use Rattle.rings.specs.Net.{Tell, Net, start, Step, Reach, still, onward}
 use Rattle.rings.proofs.Did.{Did, same, began, left, heard, found, did, said, for_nobody, for_same}
@@ -24,7 +23,7 @@ own_of q = ap (λ (e : Engine). e.own) q
 pub record Tidy (engines : ℕ) (n : Net) : Type 0 where
   pub leaves : (i : ℕ) → i < engines → (n.engine i).own % engines ≡ i
   pub low : (i : ℕ) → (n.engine i).own ≤ (n.engine i).shown
-  pub waiter : (i j : ℕ) → (n.engine i).wait ≡ For j → (i < engines) × (j < engines)
+  pub waiter : (i j : ℕ) → (n.engine i).wait ≡ Some j → (i < engines) × (j < engines)
   pub kin : (i : ℕ) → i < engines → (n.engine i).shown ≤ (n.engine ((n.engine i).shown % engines)).own
   pub kin_told : (t : Tell) → Memᴰ t n.sent → t.sign ≤ (n.engine (t.sign % engines)).own
 
@@ -67,7 +66,7 @@ module _ {engines : ℕ} {n m : Net} (old : Tidy engines n) (step : Step engines
   low_kept {i} (heard j s c w up q) = omega (arith, own_of q, shown_of q, old.low i)
   low_kept {i} (found j f q) = omega (arith, own_of q, shown_of q, old.low i)
 
-  waiter_kept : {i j : ℕ} → (m.engine i).wait ≡ For j → Did engines n m i → (i < engines) × (j < engines)
+  waiter_kept : {i j : ℕ} → (m.engine i).wait ≡ Some j → Did engines n m i → (i < engines) × (j < engines)
   waiter_kept w (same q) = old.waiter _ _ (sym (wait_of q) ∙ w)
   waiter_kept w (began k u a b f up l q) = (a, rw (for_same w (wait_of q)) b)
   waiter_kept w (left k v f q) = absurd (for_nobody w (wait_of q))

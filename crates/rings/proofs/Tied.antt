@@ -1,12 +1,11 @@
 -- What the code's definitions give is a step of the net: each test that the code passed is a premise of the step.
 -- Assumes nothing.
-use Rattle.std.proofs.Common.{◌≡◌, ℕ, ◌<◌, true, false, ◌&&◌, eqb, ltb, Ok, Err, Result, sym, ap, arith}
+use Rattle.std.proofs.Common.{◌≡◌, ℕ, ◌<◌, true, false, ◌&&◌, eqb, ltb, Ok, Err, Result, sym, ap, arith, None, Some}
 use mathlib.Core.List.Memᴰ
 use mathlib.Core.List.{Memᴰ}
 use Rattle.std.proofs.lemmas.Bool.{cond_both, and_parts, ltb-true, eqb-true, eqb-false}
 use Rattle.std.proofs.lemmas.Bool.Decides.{nat_tests}
-use Rattle.signs.specs.declared.Wait.{Wait}
-use Rattle.signs.specs.declared.Wait.TheVariants.{Nobody, For}
+use Rattle.signs.specs.Signs.{Wait}
 use Rattle.signs.specs.declared.Engine.{Engine}
 use Rattle.signs.specs.declared.Refusal.{Refusal}
 use Rattle.signs.specs.declared.Heard.{Heard}
@@ -25,7 +24,7 @@ in_range engines i j q = (grind (arith, nat_tests), grind (arith, nat_tests))
 ok_same : {A B : Type 0} {a b : A} → ◌≡◌ {A = Result A B} (Ok a) (Ok b) → a ≡ b
 ok_same q = cc
 
-begin_step : (engines : ℕ) (n : Net) (e : Engine) (i j : ℕ) → (n.engine i).wait ≡ Nobody → begin_of (n.engine i) i engines j ≡ Ok e → Step engines n (with i e n)
+begin_step : (engines : ℕ) (n : Net) (e : Engine) (i j : ℕ) → (n.engine i).wait ≡ None → begin_of (n.engine i) i engines j ≡ Ok e → Step engines n (with i e n)
 begin_step engines n e i j free =
     let u : ℕ = next_own (n.engine i).shown i engines in
     cond_both (out_of_range i engines j) _ _ (λ (r : Result Engine Refusal). r ≡ Ok e → Step engines n (with i e n))
@@ -45,9 +44,9 @@ begin_step engines n e i j free =
     (own_is_lowest (n.engine i).shown i engines below).leaves))
     (λ t q. absurd (refused q))))
 
-for_whom : (w : Wait) (j : ℕ) → is_for w j ≡ true → w ≡ For j
-for_whom Nobody j q = let z : ◌≡◌ {A = ℕ} 0 1 = cc in absurd (omega arith)
-for_whom (For k) j q = ap For (eqb-true k j q)
+for_whom : (w : Wait) (j : ℕ) → is_for w j ≡ true → w ≡ Some j
+for_whom None j q = let z : ◌≡◌ {A = ℕ} 0 1 = cc in absurd (omega arith)
+for_whom (Some k) j q = ap Some (eqb-true k j q)
 
 -- what was told since the beginning that the engine still waits by
 came : (n : Net) (t : Tell) → Memᴰ t n.sent → (n.engine t.to).count ≡ t.count → Came n t.to t.by t.sign
@@ -60,7 +59,7 @@ passed_found : ◌≡◌ {A = Heard} PassedOver Found → ⊥
 passed_found q = let z : ◌≡◌ {A = ℕ} 0 1 = cc in omega arith
 
 -- a telling that is not refused is of the present wait
-of_wait : (n : Net) (t : Tell) → waits_by (n.engine t.to) t.by t.count ≡ true → ((n.engine t.to).wait ≡ For t.by) × ((n.engine t.to).count ≡ t.count)
+of_wait : (n : Net) (t : Tell) → waits_by (n.engine t.to) t.by t.count ≡ true → ((n.engine t.to).wait ≡ Some t.by) × ((n.engine t.to).count ≡ t.count)
 of_wait n t q =
     let both = and_parts (is_for (n.engine t.to).wait t.by) (eqb (n.engine t.to).count t.count) q in
     (for_whom (n.engine t.to).wait t.by both.0, eqb-true (n.engine t.to).count t.count both.1)

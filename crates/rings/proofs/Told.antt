@@ -1,9 +1,8 @@
 -- From the engine with the highest own sign its sign is told back along the waits, engine by engine, until it comes to that engine again.
 -- Assumes nothing.
-use Rattle.std.proofs.Common.{◌≡◌, ℕ, suc, sym, refl, ap, ◌∙◌, inl, inr, arith}
+use Rattle.std.proofs.Common.{◌≡◌, ℕ, suc, sym, refl, ap, ◌∙◌, inl, inr, arith, Some}
 use mathlib.Core.List.{Memᴰ}
 use Rattle.std.proofs.lemmas.Bool.{cases_lt}
-use Rattle.signs.specs.declared.Wait.TheVariants.{For}
 use Rattle.signs.specs.Signs.{showing}
 use Rattle.rings.specs.Net.{Net, with, told, Came, Finds, tells, hears, onward, Reach, Along, one, more, long, InRing, Highest, Telling, none, tell, hear}
 use Rattle.rings.specs.Promise.{AlwaysFound}
@@ -26,7 +25,7 @@ came n i j s q = Memᴰ.head (ap (λ (t : ℕ). record { to = i; count = (n.engi
 
 module _ (engines : ℕ) (n : Net) (k : ℕ) (ring : InRing n k) (high : Highest n k k) where
   -- x shows the highest sign: one telling more, and y, who waits for x, shows it too
-  on : {c x y : ℕ} → (n.engine y).wait ≡ For x → Along n k y → Shows engines n c x (n.engine k).own → Shows engines n (suc c) y (n.engine k).own
+  on : {c x y : ℕ} → (n.engine y).wait ≡ Some x → Along n k y → Shows engines n c x (n.engine k).own → Shows engines n (suc c) y (n.engine k).own
   on {c} {x} {y} w p g =
       elim (cases_lt (g.net.engine y).shown (n.engine k).own) [
         | inl up ↦
@@ -49,7 +48,7 @@ module _ (engines : ℕ) (n : Net) (k : ℕ) (ring : InRing n k) (high : Highest
             }
       ]
     where
-      waits : (g.net.engine y).wait ≡ For x
+      waits : (g.net.engine y).wait ≡ Some x
       waits = (g.keeps y).0 ∙ w
 
   -- the sign goes back along a way of the ring that leads to k
@@ -58,7 +57,7 @@ module _ (engines : ℕ) (n : Net) (k : ℕ) (ring : InRing n k) (high : Highest
   along (more x w a) p g = on w p (along a (snoc p w) g)
 
   -- the last telling, to k itself
-  last : {c x : ℕ} → (n.engine k).wait ≡ For x → Shows engines n c x (n.engine k).own →
+  last : {c x : ℕ} → (n.engine k).wait ≡ Some x → Shows engines n c x (n.engine k).own →
       (j : ℕ) × (m : Net) × Telling n (suc c) m × Finds m k j × ((l : ℕ) → Keeps n m l)
   last {c} {x} w g =
       let low = bound g.reach (λ l q. g.keeps l) ring high ring ((covered g.reach).shows k) in (

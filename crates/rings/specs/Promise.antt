@@ -1,8 +1,7 @@
 -- What is promised of the net. Each is a type; a proof of the type is the theorem.
 -- Assumes nothing.
-use Rattle.std.specs.Prelude.{◌≡◌, ℕ, ◌%◌, ◌<◌, ◌≤◌, ◌⊎◌, Ok}
+use Rattle.std.specs.Prelude.{◌≡◌, ℕ, ◌%◌, ◌<◌, ◌≤◌, ◌⊎◌, Ok, None}
 use mathlib.Core.List.{Memᴰ}
-use Rattle.signs.specs.declared.Wait.TheVariants.{Nobody}
 use Rattle.signs.specs.declared.Engine.{Engine}
 use Rattle.signs.specs.declared.Heard.TheVariants.{TellOn, Found}
 use Rattle.signs.specs.Signs.{begin_of, hear_of, find_of}
@@ -24,7 +23,7 @@ OneFinder = (engines : ℕ) → (n : Net) → Reach engines n → (i j k l : ℕ
 abbrev pub RingStays : Type 0
 RingStays =
     (engines : ℕ) → (n m : Net) → Reach engines n → Step engines n m → (i : ℕ) → InRing n i →
-    InRing m i ⊎ ((k j : ℕ) × Along n i k × Finds n k j × ((m.engine k).wait ≡ Nobody))
+    InRing m i ⊎ ((k j : ℕ) × Along n i k × Finds n k j × ((m.engine k).wait ≡ None))
 
 -- an own sign leaves its engine's number, so no two engines have the same, and never passes what the engine shows
 abbrev pub OwnSigns : Type 0
@@ -51,7 +50,7 @@ FoundInAnyRun =
 
 -- what the code does is a step of the net: to begin where it doesn't wait, to hear and to find what was told
 pub record CodeSteps (engines : ℕ) (n : Net) (e : Engine) : Type 0 where
-  pub begins : (i j : ℕ) → (n.engine i).wait ≡ Nobody → begin_of (n.engine i) i engines j ≡ Ok e → Step engines n (with i e n)
+  pub begins : (i j : ℕ) → (n.engine i).wait ≡ None → begin_of (n.engine i) i engines j ≡ Ok e → Step engines n (with i e n)
   pub hears :
       (t : Tell) (s : ℕ) → Memᴰ t n.sent → hear_of (n.engine t.to) t.by t.count t.sign ≡ Ok (e, TellOn s) →
       Step engines n (with t.to e n)

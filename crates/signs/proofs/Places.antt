@@ -1,10 +1,9 @@
 -- Reading at the changed place gives the new value, and elsewhere the old one, array by array.
 -- Assumes nothing.
-use Rattle.std.proofs.Common.{◌≡◌, ℕ, refl, ◌∙◌, arith, length-set, get_or-set_other, get_or-set_same}
+use Rattle.std.proofs.Common.{◌≡◌, ℕ, refl, ◌∙◌, arith, length-set, get_or-set_other, get_or-set_same, None}
 use Rattle.std.proofs.lemmas.List.FromFn.{get_or-range_with_len}
 use Rattle.std.proofs.lemmas.List.{get_or-replicate}
-use Rattle.signs.specs.declared.Wait.{Wait}
-use Rattle.signs.specs.declared.Wait.TheVariants.{Nobody}
+use Rattle.signs.specs.Signs.{Wait}
 use Rattle.signs.specs.declared.Engine.{Engine}
 use Rattle.signs.specs.Table.{FreshSigns, PutOne}
 
@@ -18,7 +17,7 @@ fresh_signs = (
   record { waits = refl; counts = refl; shown = refl; own = refl },
   λ e h.
       same_engine
-      (get_or-replicate 64 e Nobody Nobody h) (get_or-replicate 64 e 0 0 h) (omega (arith, get_or-range_with_len 0 64 e 0 h)) (omega (arith, get_or-range_with_len 0 64 e 0 h)),
+      (get_or-replicate 64 e None None h) (get_or-replicate 64 e 0 0 h) (omega (arith, get_or-range_with_len 0 64 e 0 h)) (omega (arith, get_or-range_with_len 0 64 e 0 h)),
 )
 
 pub put_one : PutOne
@@ -30,13 +29,13 @@ put_one t s e x h = (
     own = length-set t.own e x.own ∙ s.own;
   },
   same_engine
-      (get_or-set_same t.waits e x.wait Nobody (omega arith))
+      (get_or-set_same t.waits e x.wait None (omega arith))
       (get_or-set_same t.counts e x.count 0 (omega arith))
       (get_or-set_same t.shown e x.shown 0 (omega arith))
       (get_or-set_same t.own e x.own 0 (omega arith)),
   λ k ne.
       same_engine
-      (get_or-set_other t.waits e k x.wait Nobody ne)
+      (get_or-set_other t.waits e k x.wait None ne)
       (get_or-set_other t.counts e k x.count 0 ne)
       (get_or-set_other t.shown e k x.shown 0 ne)
       (get_or-set_other t.own e k x.own 0 ne),

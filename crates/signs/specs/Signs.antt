@@ -1,13 +1,15 @@
 -- What one engine does: it begins to wait, hears a sign, finds that its own sign came round. Each gives the engine afterwards.
 -- Assumes nothing.
-use Rattle.std.specs.Prelude.{ℕ, ◌+◌, ◌-◌, ◌%◌, ◌^◌, Bool, false, cond, ◌&&◌, ◌||◌, Ok, Err, Result, ◌==◌, nat_le, nat_lt}
-use Rattle.signs.specs.declared.Wait.{Wait}
-use Rattle.signs.specs.declared.Wait.TheVariants.{Nobody, For}
+use Rattle.std.specs.Prelude.{ℕ, ◌+◌, ◌-◌, ◌%◌, ◌^◌, Bool, false, cond, ◌&&◌, ◌||◌, Ok, Err, Result, Option, ◌==◌, nat_le, nat_lt, None, Some}
 use Rattle.signs.specs.declared.Engine.{Engine}
 use Rattle.signs.specs.declared.Refusal.{Refusal}
 use Rattle.signs.specs.declared.Refusal.TheVariants.{OutOfRange, Itself, Stale, Limit}
 use Rattle.signs.specs.declared.Heard.{Heard}
 use Rattle.signs.specs.declared.Heard.TheVariants.{TellOn, Found, PassedOver}
+
+-- for whom an engine waits: another by its number, or nobody
+abbrev pub Wait : Type 0
+Wait = Option ℕ
 
 -- the numbers by which calls are refused
 abbrev pub number_of : Refusal → ℕ
@@ -27,7 +29,7 @@ next_own shown me engines = shown + ahead_of shown me engines
 
 -- an engine that has begun to wait: one beginning more, and the new sign its own and shown
 abbrev pub begun : Engine → ℕ → ℕ → Engine
-begun e whom sign = record { wait = For whom; count = e.count + 1; shown = sign; own = sign }
+begun e whom sign = record { wait = Some whom; count = e.count + 1; shown = sign; own = sign }
 
 -- an engine or a number of engines that no yard has
 abbrev pub out_of_range : ℕ → ℕ → ℕ → Bool
@@ -45,8 +47,8 @@ begin_of e me engines whom =
     (cond (has_room e (next_own e.shown me engines)) (Ok (begun e whom (next_own e.shown me engines))) (Err Limit)))
 
 abbrev pub is_for : Wait → ℕ → Bool
-is_for Nobody by = false
-is_for (For whom) by = whom == by
+is_for None by = false
+is_for (Some whom) by = whom == by
 
 -- it waits for that one, since that beginning
 abbrev pub waits_by : Engine → ℕ → ℕ → Bool
@@ -58,7 +60,7 @@ showing e sign = record { wait = e.wait; count = e.count; shown = sign; own = e.
 
 -- the engine, waiting no more
 abbrev pub idle : Engine → Engine
-idle e = record { wait = Nobody; count = e.count; shown = e.shown; own = e.own }
+idle e = record { wait = None; count = e.count; shown = e.shown; own = e.own }
 
 -- a sign above the one shown is shown and told on; what is told of another wait is stale
 abbrev pub hear_of : Engine → ℕ → ℕ → ℕ → Result (Engine × Heard) Refusal

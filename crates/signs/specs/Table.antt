@@ -1,8 +1,7 @@
 -- The table of a yard's engines, read and changed at one engine.
 -- Assumes nothing.
-use Rattle.std.specs.Prelude.{◌≡◌, ℕ, ◌<◌, cond, length, replicate, Ok, Err, Result, ◌≢◌, nat_lt, slice_index, slice_index_or, slice_set}
+use Rattle.std.specs.Prelude.{◌≡◌, ℕ, ◌<◌, cond, length, replicate, Ok, Err, Result, ◌≢◌, nat_lt, slice_index, slice_index_or, slice_set, None}
 use Rattle.std.specs.List.{range_with_len}
-use Rattle.signs.specs.declared.Wait.TheVariants.{Nobody}
 use Rattle.signs.specs.declared.Engine.{Engine}
 use Rattle.signs.specs.declared.table.Engines.{Engines}
 use Rattle.signs.specs.declared.Refusal.{Refusal}
@@ -10,12 +9,12 @@ use Rattle.signs.specs.declared.Refusal.TheVariants.{OutOfRange}
 
 -- nobody waits, none has begun, and every engine's sign is its number
 abbrev pub fresh_of : Engines
-fresh_of = record { waits = replicate 64 Nobody; counts = replicate 64 0; shown = range_with_len 0 64; own = range_with_len 0 64 }
+fresh_of = record { waits = replicate 64 None; counts = replicate 64 0; shown = range_with_len 0 64; own = range_with_len 0 64 }
 
 -- the engine that stands at a place of the table
 abbrev pub engine_at : Engines → ℕ → Engine
 engine_at t e =
-    record { wait = slice_index_or t.waits e Nobody; count = slice_index t.counts e; shown = slice_index t.shown e; own = slice_index t.own e }
+    record { wait = slice_index_or t.waits e None; count = slice_index t.counts e; shown = slice_index t.shown e; own = slice_index t.own e }
 
 -- the table with another engine at one place
 abbrev pub with : Engines → ℕ → Engine → Engines
@@ -37,7 +36,7 @@ pub record Sized (t : Engines) : Type 0 where
 
 -- a fresh table has at each place an engine that waits for nobody and shows its number
 abbrev pub FreshSigns : Type 0
-FreshSigns = Sized fresh_of × ((e : ℕ) → e < 64 → engine_at fresh_of e ≡ record { wait = Nobody; count = 0; shown = e; own = e })
+FreshSigns = Sized fresh_of × ((e : ℕ) → e < 64 → engine_at fresh_of e ≡ record { wait = None; count = 0; shown = e; own = e })
 
 -- after a change the changed place has what was put there, and every other place what it had
 abbrev pub PutOne : Type 0

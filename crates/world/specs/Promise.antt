@@ -14,9 +14,7 @@ use Rattle.messages.specs.declared.message.Reply.TheVariants as reply
 use Rattle.messages.specs.Table.{bytes_of}
 use Rattle.journal.specs.declared.output.Output.{Output}
 use Rattle.journal.specs.declared.output.Output.TheVariants as output
-use Rattle.sections.specs.declared.Holder.TheVariants as has
 use Rattle.engine_state.specs.declared.state.Wait.{Wait}
-use Rattle.home.specs.declared.home.Note.TheVariants as note
 use Rattle.home.specs.Queries.{note_at, wait_at}
 use Rattle.world.specs.declared.step.Step.{Step}
 use Rattle.world.specs.declared.step.Step.TheVariants as step
@@ -51,8 +49,8 @@ AlwaysFound = (w : World) (ring : List ℕ) → Reached w → Ring w ring → ((
 
 -- the home of i knows for whom it waits, and the home of that one knows that i waits
 abbrev pub Noted : World → ℕ → ℕ → Type 0
-Noted w i j = (x : Wait) × (wait_at (home_in w (record { 0 = i })) (record { 0 = i }) ≡ Some x) × (x.whom.0 ≡ j) × (holder_in w x.section ≡ has.Engine j)
-    × (note_at (home_in w (record { 0 = j })) (record { 0 = i }) ≡ note.Waits x.section x.count)
+Noted w i j = (x : Wait) × (wait_at (home_in w (record { 0 = i })) (record { 0 = i }) ≡ Some x) × (x.whom.0 ≡ j) × (holder_in w x.section ≡ Some j)
+    × (note_at (home_in w (record { 0 = j })) (record { 0 = i }) ≡ Some (record { section = x.section; count = x.count }))
 
 abbrev pub NotedChain : World → ℕ → List ℕ → ℕ → Type 0
 NotedChain w i [] z = Noted w i z
@@ -73,7 +71,7 @@ pub data ToldOn (sign : ℕ) : World → ℕ → List ℕ → List Taken → Wor
   between : {w u v : World} {i : ℕ} {is : List ℕ} {s : Step} {a : Answer} {more : List Taken} → Makes w s (u, a) → ToldOn sign u i is more v
       → ToldOn sign w i is (record { step = s; answer = a } ∷ more) v
   told : {w u v : World} {i j m : ℕ} {js : List ℕ} {a : Answer} {more : List Taken} → Makes w (step.Deliver m) (u, a) → is_sent w m ≡ true
-      → (message_at w m).bytes ≡ bytes_of (message.Sign (record { 0 = j }) (engine_in w (record { 0 = j })).signs.count (record { 0 = i }) sign)
+      → (message_at w m).bytes ≡ bytes_of (message.Sign (record { to = (record { 0 = j }); count = (engine_in w (record { 0 = j })).signs.count; by = (record { 0 = i }); sign = sign }))
       → ToldOn sign u j js more v → ToldOn sign w i (j ∷ js) (record { step = step.Deliver m; answer = a } ∷ more) v
 
 -- the ring backwards: whoever waits for one comes after it
@@ -91,7 +89,7 @@ AlwaysFoundInEveryRun = (w v : World) (k : ℕ) (ks : List ℕ) (steps : List Ta
 abbrev pub AlwaysHad : Type 0
 AlwaysHad = (w u v : World) (s : Step) (a : Answer) (e : Engine) (place : Section) (steps : List Taken) → Reached w → Makes w s (u, a) → Says a (output.Had e place)
     → Run u steps v → ((n : ℕ) (b : BoxNumber) → SaidIn steps (output.Send b (message.Call (record { act = act.Free; engine = e; section = place; number = n }))) → ⊥)
-    → (holder_in w place ≡ has.Engine e.0) × (holder_in v place ≡ has.Engine e.0)
+    → (holder_in w place ≡ Some e.0) × (holder_in v place ≡ Some e.0)
 
 -- one comes before another in a queue
 abbrev pub Before : ℕ → ℕ → List ℕ → Type 0
@@ -100,7 +98,7 @@ Before i j queue = (front rest : List ℕ) × (queue ≡ front ++ i ∷ rest) ×
 -- 5. Who has a section after another was first of its queue; and who came later never is before.
 abbrev pub AlwaysInTurn : Type 0
 AlwaysInTurn = (w u : World) (s : Step) (a : Answer) (place : Section) → Reached w → Makes w s (u, a)
-    → ((i j : ℕ) → holder_in w place ≡ has.Engine i → holder_in u place ≡ has.Engine j → (i ≢ j) → (rest : List ℕ) × (queue_in w place ≡ j ∷ rest))
+    → ((i j : ℕ) → holder_in w place ≡ Some i → holder_in u place ≡ Some j → (i ≢ j) → (rest : List ℕ) × (queue_in w place ≡ j ∷ rest))
     × ((i j : ℕ) → Before i j (queue_in w place) → OneOf i (queue_in u place) → OneOf j (queue_in u place) → Before i j (queue_in u place))
 
 -- 6. A box that stops comes up; with the same holders, queues, change numbers, last calls and answers; its engines with the same signs, counts and last numbers.
@@ -128,11 +126,11 @@ IsReply (reply.Refused r) = Unit {0}
 
 abbrev pub IsReport : Message → Type 0
 IsReport (message.Call c) = ⊥
-IsReport (message.Answer e n r h c) = IsReply r
-IsReport (message.Change s h c) = Unit {0}
+IsReport (message.Answer e n answer) = IsReply answer.reply
+IsReport (message.Change news) = Unit {0}
 IsReport (message.WhichChange e s) = ⊥
-IsReport (message.Sign t n b s) = ⊥
-IsReport (message.Waits e s n c) = ⊥
+IsReport (message.Sign telling) = ⊥
+IsReport (message.Waits waiting) = ⊥
 
 -- what is refused first
 abbrev pub TurnedAwayBy : Answer → Refusal → Type 0

@@ -1,19 +1,18 @@
 -- Runs of boxes together, and what is read of a world: who has a section, who waits for whom, rings. Assumes nothing.
-use Rattle.std.specs.Prelude.{◌≡◌, ℕ, ◌+◌, ◌^◌, ◌<◌, ◌≤◌, List, [], ◌∷◌, ◌++◌, Ok, Err, slice_index}
+use Rattle.std.specs.Prelude.{◌≡◌, ℕ, ◌+◌, ◌^◌, ◌<◌, ◌≤◌, List, [], ◌∷◌, ◌++◌, Ok, Err, slice_index, Some}
 use Rattle.messages.specs.declared.yard.BoxNumber.{BoxNumber}
 use Rattle.messages.specs.declared.yard.Engine.{Engine}
 use Rattle.messages.specs.declared.yard.Section.{Section}
 use Rattle.messages.specs.declared.yard.Yard.{Yard}
 use Rattle.messages.specs.declared.message.Act.TheVariants as act
 use Rattle.journal.specs.declared.output.Output.{Output}
-use Rattle.sections.specs.declared.Holder.TheVariants as has
-use Rattle.sections.specs.declared.Holder.{Holder}
+use Rattle.sections.specs.Table.{Holder}
 use Rattle.sections.specs.Table as table
 use Rattle.engine_state.specs.declared.state.Mode.TheVariants as mode
 use Rattle.engine_state.specs.declared.state.State.{State}
 use Rattle.home.specs.declared.home.Home.{Home}
 use Rattle.home.specs.Home.{at}
-use Rattle.boxes.specs.Emit.{home_of}
+use Rattle.messages.specs.Homes.{home_of}
 use Rattle.world.specs.declared.step.Step.{Step}
 use Rattle.world.specs.World.{Answer, Makes, World, empty, station_at}
 
@@ -67,7 +66,7 @@ own_in w i = (engine_in w (record { 0 = i })).signs.own
 
 -- an engine stands in the queue of a section that another has
 abbrev pub WaitsFor : World → ℕ → ℕ → Type 0
-WaitsFor w i j = (s : Section) × OneOf i (queue_in w s) × (holder_in w s ≡ has.Engine j)
+WaitsFor w i j = (s : Section) × OneOf i (queue_in w s) × (holder_in w s ≡ Some j)
 
 -- from an engine each waits for the next, and the last for z
 abbrev pub Chain : World → ℕ → List ℕ → ℕ → Type 0

@@ -14,7 +14,7 @@ use Rattle.journal.specs.declared.output.Output.{Output}
 use Rattle.journal.specs.declared.output.Output.TheVariants as output
 use Rattle.journal.specs.Effect.{said_of}
 use Rattle.boxes.specs.declared.signal_box.Input.TheVariants as input
-use Rattle.boxes.specs.Emit.{home_of}
+use Rattle.messages.specs.Homes.{home_of}
 use Rattle.boxes.specs.Model.{State}
 use Rattle.world.specs.declared.envelope.Envelope as code
 use Rattle.world.specs.declared.step.Outcome.{Outcome}

@@ -6,7 +6,7 @@ ghost use Rattle.messages.specs.Written.{encoded};
 
 use crate::decoder::{call, eight_at, four_at};
 use crate::encoded::Encoded;
-use crate::message::{Act, Call, Record};
+use crate::message::{Act, Beginning, Call, Record};
 use crate::records::{First, Replay, Unread};
 use crate::yard::Yard;
 use std::alloc::Global;
@@ -18,21 +18,14 @@ pub fn encode_record(record: Record) -> Encoded
     match record {
         Record::Kept(call) => out.call(call),
         Record::Made(call) => out.byte(10).call(call),
-        Record::Beginning {
-            engine,
-            section,
-            change,
-            holder,
-            count,
-            own,
-        } => {
+        Record::Beginning(beginning) => {
             out.byte(8)
-                .byte(engine.0)
-                .section(section)
-                .four(change)
-                .byte(holder.0)
-                .four(count)
-                .eight(own)
+                .byte(beginning.engine.0)
+                .section(beginning.section)
+                .four(beginning.change)
+                .byte(beginning.holder.0)
+                .four(beginning.count)
+                .eight(beginning.own)
         }
         Record::Heard { engine, sign } => out.byte(9).byte(engine.0).eight(sign),
     }
@@ -140,14 +133,14 @@ fn beginning(yard: Yard, rest: &[u8]) -> Option<Record>
     let change = four_at(rest, 3);
     let count = four_at(rest, 8);
     let own = eight_at(rest, 12);
-    Some(Record::Beginning {
+    Some(Record::Beginning(Beginning {
         engine,
         section,
         change,
         holder,
         count,
         own,
-    })
+    }))
 }
 
 fn heard(yard: Yard, rest: &[u8]) -> Option<Record>

@@ -1,9 +1,9 @@
 // What is in range, tested.
 ghost use Rattle.std.specs.Prelude.{◌≡◌};
+ghost use Rattle.messages.specs.Homes.{home_of};
 ghost use Rattle.messages.specs.Reading.{box_of, engine_of, holder_of, section_of};
 ghost use Rattle.messages.specs.Range.{YardMade};
 
-use crate::message::Holder;
 use crate::yard::{BoxNumber, Engine, MOST_BOXES, MOST_ENGINES, PLACES, Section, Yard};
 
 const NOBODY: u8 = 255;
@@ -52,14 +52,21 @@ impl Yard {
         }
     }
 
+    // The home of an engine: the box that its number leaves when divided by the number of boxes.
+    pub fn home(self, engine: Engine) -> BoxNumber
+        ensures { result ≡ home_of self engine }
+    {
+        BoxNumber(engine.0 % self.boxes)
+    }
+
     // Who has a section, by its byte.
-    pub(crate) fn holder(self, number: u8) -> Option<Holder>
+    pub(crate) fn holder(self, number: u8) -> Option<Option<Engine>>
         ensures { result ≡ holder_of self number }
     {
         if number == NOBODY {
-            return Some(Holder::Nobody);
+            return Some(None);
         }
         let engine = self.engine(number)?;
-        Some(Holder::Engine(engine))
+        Some(Some(engine))
     }
 }

@@ -12,7 +12,7 @@ use crate::envelope::Envelope;
 use crate::station::Station;
 use crate::step::{Outcome, Step};
 use crate::world::World;
-use boxes::{Input, SignalBox, home_of};
+use boxes::{Input, SignalBox};
 use journal::{Fault, OpenFault, Output, Said};
 use messages::{BoxNumber, Engine, Message, Refusal, Section, Yard, encode};
 use std::alloc::{AllocError, Global};
@@ -161,14 +161,14 @@ impl World {
     pub fn take(&mut self, engine: Engine, section: Section) -> Result<Outcome, OpenFault>
         ensures { IfOk result (λ out. (world_of self.new, answer_of out) ≡ take_of (world_of self.old) engine section) }
     {
-        let at = home_of(self.yard, engine);
+        let at = self.yard.home(engine);
         self.handle_at(at, Input::Take { engine, section })
     }
 
     pub fn free(&mut self, engine: Engine, section: Section) -> Result<Outcome, OpenFault>
         ensures { IfOk result (λ out. (world_of self.new, answer_of out) ≡ free_of (world_of self.old) engine section) }
     {
-        let at = home_of(self.yard, engine);
+        let at = self.yard.home(engine);
         self.handle_at(at, Input::Free { engine, section })
     }
 

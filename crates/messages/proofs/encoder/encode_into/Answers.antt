@@ -15,8 +15,8 @@ returns-in-Waits c =
 
 pub returns-in-Answer : goal.returns-in-Answer
 returns-in-Answer c =
-    answer_bytes c.in-Answer.engine c.in-Answer.call c.in-Answer.reply c.in-Answer.holder c.in-Answer.change
-    c.byte-in-Answer-2.result c.byte-in-Answer-4.result c.byte-in-Answer-2.ensures c.byte-in-Answer-4.ensures
+    answer_bytes c.in-Answer.engine c.in-Answer.call c.in-Answer.answer.reply c.in-Answer.answer.holder c.in-Answer.answer.change
+    c.byte-in-Answer-2.result c.holder_byte.result c.byte-in-Answer-2.ensures c.holder_byte.ensures
     (on _ (on _ (on _ (on _ (on _ (on _ (on _ c.empty-in-Answer.ensures.bytes c.byte.ensures.bytes) c.byte-in-Answer.ensures.bytes) c.four.ensures.bytes)
-    c.byte-in-Answer-3.ensures.bytes) c.byte-in-Answer-5.ensures.bytes) c.four-start.ensures.bytes) c.reply_end.ensures)
+    c.byte-in-Answer-3.ensures.bytes) c.byte-in-Answer-4.ensures.bytes) c.four-start.ensures.bytes) c.reply_end.ensures)
     ∙ sym (ap bytes_of c.in-Answer.is)

@@ -1,6 +1,7 @@
 -- Each turn is one engine further along the walk.
+use Rattle.std.specs.Prelude.{Some}
 use Rattle.std.proofs.Common.{◌-◌, Some, vec_items, Option, sym, ap, ◌∙◌, arith}
-use Rattle.messages.specs.declared.message.Holder.{Holder}
+use Rattle.messages.specs.Holder.{Holder}
 use Rattle.world.specs.World.{world_of}
 use Rattle.port.specs.Walk.{after_of, walk, whom_of}
 use Rattle.port.proofs.Looking.{walk_back, walk_end, walk_next, walk_out}
