@@ -1,14 +1,12 @@
 -- What a rehearsal does with a call, and the text of its answers.
-use Rattle.std.specs.Prelude.{ℕ, cond, List, ◌++◌, Ok, Err, codes, decimal, Result, nat_lt}
+use Rattle.std.specs.Prelude.{ℕ, cond, List, ◌++◌, Some, None, Ok, Err, codes, decimal, Result, nat_lt}
 use Rattle.std.specs.List.{flat_map}
-use Rattle.sections.specs.declared.Holder.{Holder}
-use Rattle.sections.specs.declared.Holder.TheVariants.{Free, Engine}
 use Rattle.sections.specs.declared.Done.{Done}
 use Rattle.sections.specs.declared.Done.TheVariants.{Had, Waits, LetGo, Left}
 use Rattle.sections.specs.declared.Refusal.{Refusal}
 use Rattle.sections.specs.declared.Refusal.TheVariants.{OutOfRange}
 use Rattle.sections.specs.Bytes.{number_of}
-use Rattle.sections.specs.Table.{Table, free_of, give_up_of, take_of}
+use Rattle.sections.specs.Table.{Holder, Table, free_of, give_up_of, take_of}
 use Rattle.one_box.specs.declared.script.Verb.{Verb}
 use Rattle.one_box.specs.declared.script.Verb.TheVariants.{Take, Free as Frees, GiveUp}
 use Rattle.one_box.specs.declared.script.Call.{Call}
@@ -28,8 +26,8 @@ abbrev pub which_text : Call → List ℕ
 which_text call = decimal call.engine ++ (codes " 0:" ++ decimal call.place)
 
 abbrev pub let_go_text : Call → Holder → List ℕ
-let_go_text call Free = codes "let go " ++ (decimal call.engine ++ (codes " 0:" ++ (decimal call.place ++ codes " to nobody")))
-let_go_text call (Engine next) = codes "let go " ++ (decimal call.engine ++ (codes " 0:" ++ (decimal call.place ++ (codes " to " ++ decimal next))))
+let_go_text call None = codes "let go " ++ (decimal call.engine ++ (codes " 0:" ++ (decimal call.place ++ codes " to nobody")))
+let_go_text call (Some next) = codes "let go " ++ (decimal call.engine ++ (codes " 0:" ++ (decimal call.place ++ (codes " to " ++ decimal next))))
 
 abbrev pub done_text : Call → Done → List ℕ
 done_text call Had = codes "had " ++ which_text call

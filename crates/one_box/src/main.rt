@@ -6,7 +6,7 @@ mod script;
 
 use play::{Answer, Section};
 use script::Line;
-use sections::{Holder, PLACES, Sections};
+use sections::{PLACES, Sections};
 use std::io;
 
 const REFUSED: &str = "refused 1";
@@ -14,7 +14,7 @@ const REFUSED: &str = "refused 1";
 // Prints each section that somebody has, by place.
 fn show(rt: &HostRuntime, sections: &Sections) -> io::Result<()> {
     for place in 0..PLACES {
-        if let Holder::Engine(holder) = sections.holder(place) {
+        if let Some(holder) = sections.holder(place) {
             let section = Section {
                 place,
                 holder,

@@ -4,7 +4,7 @@ ghost use Rattle.sections.specs.Model.{table_of};
 ghost use Rattle.one_box.specs.Play.{answer_text, play_of, section_text};
 
 use crate::script::{Call, Verb};
-use sections::{Done, Holder, Refusal, Sections};
+use sections::{Done, Refusal, Sections};
 use std::fmt;
 
 // One call on the sections, by one of so many engines.
@@ -37,11 +37,8 @@ impl fmt::Display for Answer {
         match self.outcome {
             Ok(Done::Had) => write!(f, "had {engine} 0:{place}"),
             Ok(Done::Waits(holder)) => write!(f, "waits {engine} 0:{place} for {holder}"),
-            Ok(Done::LetGo(Holder::Free)) => write!(f, "let go {engine} 0:{place} to nobody"),
-            Ok(Done::LetGo(Holder::Engine(next))) => write!(
-                f,
-                "let go {engine} 0:{place} to {next}"
-            ),
+            Ok(Done::LetGo(None)) => write!(f, "let go {engine} 0:{place} to nobody"),
+            Ok(Done::LetGo(Some(next))) => write!(f, "let go {engine} 0:{place} to {next}"),
             Ok(Done::Left) => write!(f, "left {engine} 0:{place}"),
             Err(refusal) => write!(f, "refused {}", refusal.number()),
         }
