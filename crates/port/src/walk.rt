@@ -8,7 +8,8 @@ ghost use Rattle.port.specs.Walk.{after_of, ring_from, whom_at, whom_by, whom_in
 
 use keeper::Keeper;
 use messages::{BoxNumber, Engine, Holder};
-use sections::{ENGINES, PLACES};
+use ring_search::walk::{Waits, way_back};
+use sections::PLACES;
 use std::alloc::{AllocError, Global};
 use world::World;
 
@@ -71,27 +72,21 @@ fn whom(world: &World, engine: Engine) -> Option<Holder>
     None
 }
 
-// Where the waits go on from an engine of the way.
+// Who waits for whom by the queues of all boxes.
 #[derive(Clone, Copy)]
-enum Next {
-    // They end.
-    Out,
-    // They come back to the first.
-    Back,
-    On(Engine),
+struct Queued<'a> {
+    world: &'a World,
 }
 
-fn after(whom: Option<Holder>, first: Engine) -> Next
-    ensures { result ≡ after_of whom first }
-{
-    match whom {
-        None | Some(Holder::Nobody) => Next::Out,
-        Some(Holder::Engine(next)) => {
-            if next.0 == first.0 {
-                Next::Back
-            } else {
-                Next::On(next)
-            }
+impl Waits for Queued<'_> {
+    type Engine = Engine;
+
+    ghost whom = { λ queued engine. after_of (whom_of (world_of queued.world.now) engine) };
+
+    fn whom(&self, engine: Engine) -> Option<Engine> {
+        match whom(self.world, engine) {
+            Some(Holder::Engine(next)) => Some(next),
+            Some(Holder::Nobody) | None => None,
         }
     }
 }
@@ -104,17 +99,5 @@ pub(crate) fn ring_from(
 ) -> Result<Option<Vec<Engine>>, AllocError>
     ensures { IfOk result (λ o. option_map vec_items o ≡ ring_from (world_of world.now) engine) }
 {
-    let mut ring = Vec::new(heap);
-    let mut at = engine;
-    let mut left = ENGINES;
-    while left > 0 {
-        ring.push(at)?;
-        match after(whom(world, at), engine) {
-            Next::Out => return Ok(None),
-            Next::Back => return Ok(Some(ring)),
-            Next::On(next) => at = next,
-        }
-        left -= 1;
-    }
-    Ok(None)
+    way_back(heap, &Queued { world }, engine)
 }
