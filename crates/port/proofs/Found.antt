@@ -6,7 +6,6 @@ use Rattle.std.proofs.lemmas.Bool.{cases_Bool, cases_eq, cond-false, cond-true, 
 use Rattle.std.proofs.lemmas.Bool.Decides.{nat_tests}
 use Rattle.messages.specs.declared.yard.Engine.{Engine}
 use Rattle.messages.specs.declared.yard.Section.{Section}
-use Rattle.messages.specs.Holder.{Holder}
 use Rattle.keeper.specs.Words.{holder_of}
 use Rattle.sections.specs.Table.{Holder as SectionHolder}
 use Rattle.sections.specs.Sound.{once}
@@ -22,9 +21,9 @@ use Rattle.refinement.specs.Placed.{number_of}
 use Rattle.promises.proofs.Dictionary.{from_mem, holder_of_model, queue_in_yard, queued_of, ring_numbered, sound_in, to_mem, waits_of_world}
 use Rattle.promises.proofs.Shapes.{WorldIn, reached_in}
 use Rattle.promises.proofs.Whole.{Modelled, reached_modelled}
-use Rattle.port.specs.declared.walk.Next.TheVariants.{Back, On}
-use Rattle.port.specs.Walk.{after_of, first_from, or_else, ring_from, walk, whom_at, whom_by, whom_in, whom_of}
-use Rattle.port.proofs.Looking.{first_end, first_on, walk_back, walk_next}
+use Rattle.ring_search.proofs.Chase.{chase_back, chase_next}
+use Rattle.port.specs.Walk.{after_of, first_from, or_else, ring_from, same, walk, whom_at, whom_by, whom_in, whom_of}
+use Rattle.port.proofs.Looking.{first_end, first_on}
 
 -- THE FIRST OF MANY THAT ARE ALL THE SAME
 module _ {A : Type 0} (f : ℕ → Option A) (x : A) (all : (n : ℕ) → (f n ≡ None) ⊎ (f n ≡ Some x)) where
@@ -124,20 +123,17 @@ module _ (w : World) (z : model.Yard) (i : WorldIn w) (m : Modelled w z) where
       (ap (whom_by e) (cond-true (is_box w s.keeper) (Some (station_at w s.keeper).state) None is) ∙ mine)
 
   -- where one goes on to
-  goes_back : (e : ℕ) (first : Engine) → WaitsFor w e first.0 → Back ≡ after_of (whom_of w (engine e)) first
-  goes_back e first waits =
-      sym (ap (λ (o : Option Holder). after_of o first) (whom_found e first.0 waits) ∙ cond-true (eqb first.0 first.0) Back (On first) (eq-eqb first.0 first.0 refl))
-
-  goes_on : (e j : ℕ) (first : Engine) → WaitsFor w e j → (j ≡ first.0 → ⊥) → On (engine j) ≡ after_of (whom_of w (engine e)) first
-  goes_on e j first waits other =
-      sym (ap (λ (o : Option Holder). after_of o first) (whom_found e j waits) ∙ cond-false (eqb j first.0) Back (On (engine j)) (ne_eqb j first.0 other))
+  goes_on : (e j : ℕ) → WaitsFor w e j → after_of (whom_of w (engine e)) ≡ Some (engine j)
+  goes_on e j waits = ap after_of (whom_found e j waits)
 
   -- along the waits of a chain the walk passes its engines
   pub chain_walked : (first : Engine) (left x : ℕ) (xs : List ℕ) (done : List Engine) → Chain w x xs first.0 → (OneOf first.0 xs → ⊥) → length xs < left →
       walk (whom_of w) first left (engine x) done ≡ Some (done ++ map engine (x ∷ xs))
-  chain_walked first left x [] done c never lt = walk_back (whom_of w) first left (engine x) done (omega arith) (goes_back x first c)
+  chain_walked first left x [] done c never lt =
+      chase_back same (λ e. after_of (whom_of w e)) first left (engine x) first done (omega arith) (goes_on x first.0 c) (eq-eqb first.0 first.0 refl)
   chain_walked first left x (y ∷ ys) done c never lt =
-      walk_next (whom_of w) first left (engine x) (engine y) done (omega arith) (goes_on x y first c.0 (λ e. never (from_mem (y ∷ ys) (Memᴰ.head (sym e))))) ∙
+      chase_next same (λ e. after_of (whom_of w e)) first left (engine x) (engine y) done (omega arith) (goes_on x y c.0)
+      (ne_eqb y first.0 (λ e. never (from_mem (y ∷ ys) (Memᴰ.head (sym e))))) ∙
       chain_walked first (left - 1) y ys (done ++ engine x ∷ []) c.1 (λ o. never (from_mem (y ∷ ys) (Memᴰ.tail (to_mem ys o)))) (omega arith) ∙
       ap Some (append_assoc done (engine x ∷ []) (map engine (y ∷ ys)))
 

@@ -1,14 +1,11 @@
 -- One number, one place of a queue or one engine further: what is left to look at gives what all gives.
-use Rattle.std.specs.Prelude.{None, Some}
-use Rattle.std.proofs.Common.{◌≡◌, ℕ, zero, suc, ◌+◌, ◌-◌, ◌<◌, ◌≤◌, Bool, true, false, cond, ◌||◌, List, [], ◌∷◌, ◌++◌, length, get_or, drop, Some, None, Option, sym, refl, ap, ◌∙◌, arith}
+use Rattle.std.proofs.Common.{◌≡◌, ℕ, zero, suc, ◌+◌, ◌-◌, ◌<◌, ◌≤◌, Bool, true, false, cond, ◌||◌, List, length, get_or, drop, Some, None, Option, sym, refl, ap, ◌∙◌, arith}
 use Rattle.std.proofs.lemmas.List.{at_drop_more, at_drop_all}
 use Rattle.std.proofs.lemmas.Bool.{eq-eqb, lt-ltb, ne_eqb}
 use Rattle.messages.specs.declared.yard.Engine.{Engine}
-use Rattle.messages.specs.Holder.{Holder}
 use Rattle.keeper.specs.Words.{waiter_of}
 use Rattle.sections.specs.Table.{is_in}
-use Rattle.port.specs.declared.walk.Next.TheVariants.{Out, Back, On}
-use Rattle.port.specs.Walk.{after_of, first_from, follow, or_else, walk}
+use Rattle.port.specs.Walk.{first_from, or_else}
 
 -- A QUEUE
 who_is : (q : List ℕ) (i : ℕ) (x : Engine) → i < length q → Some x ≡ waiter_of q i → x.0 ≡ get_or q i 0
@@ -58,25 +55,3 @@ module _ {A : Type 0} (f : ℕ → Option A) where
 
   pub first_none : (end n : ℕ) → end ≤ n → first_from f (end - n) n ≡ first_from f end 0 → None ≡ first_from f end 0
   first_none end n ge inv = sym (first_end (end - n) n (omega arith)) ∙ inv
-
--- ENGINES
-module _ (whom : Engine → Option Holder) (first : Engine) where
-  pub walk_on : (left : ℕ) (at : Engine) (done : List Engine) → 0 < left →
-      walk whom first left at done ≡ follow (done ++ at ∷ []) (λ next. walk whom first (left - 1) next (done ++ at ∷ [])) (after_of (whom at) first)
-  unfolding walk
-  walk_on zero at done h = absurd (omega arith)
-  walk_on (suc left) at done h = let q : suc left - 1 ≡ left = omega arith in rw q refl
-
-  pub walk_out : (left : ℕ) (at : Engine) (done : List Engine) → 0 < left → Out ≡ after_of (whom at) first → walk whom first left at done ≡ None
-  walk_out left at done h q = walk_on left at done h ∙ ap (follow (done ++ at ∷ []) (λ next. walk whom first (left - 1) next (done ++ at ∷ []))) (sym q)
-
-  pub walk_back : (left : ℕ) (at : Engine) (done : List Engine) → 0 < left → Back ≡ after_of (whom at) first → walk whom first left at done ≡ Some (done ++ at ∷ [])
-  walk_back left at done h q = walk_on left at done h ∙ ap (follow (done ++ at ∷ []) (λ next. walk whom first (left - 1) next (done ++ at ∷ []))) (sym q)
-
-  pub walk_next : (left : ℕ) (at next : Engine) (done : List Engine) → 0 < left → On next ≡ after_of (whom at) first →
-      walk whom first left at done ≡ walk whom first (left - 1) next (done ++ at ∷ [])
-  walk_next left at next done h q = walk_on left at done h ∙ ap (follow (done ++ at ∷ []) (λ z. walk whom first (left - 1) z (done ++ at ∷ []))) (sym q)
-
-  pub walk_end : (left : ℕ) (at : Engine) (done : List Engine) → left ≡ 0 → walk whom first left at done ≡ None
-  unfolding walk
-  walk_end left at done q = rw q refl

@@ -1,13 +1,12 @@
 -- WHOM AN ENGINE WAITS FOR BY THE QUEUES OF ALL BOXES, AND THE WAY ALONG WAITS BACK TO IT. Assumes nothing.
-use Rattle.std.specs.Prelude.{ℕ, zero, suc, ◌+◌, cond, List, [], ◌∷◌, ◌++◌, Some, None, Option, ◌==◌}
+use Rattle.std.specs.Prelude.{ℕ, zero, suc, ◌+◌, Bool, cond, List, [], Some, None, Option, ◌==◌}
 use Rattle.messages.specs.declared.yard.Engine.{Engine}
 use Rattle.messages.specs.Holder.{Holder}
 use Rattle.keeper.specs.Words.{holder_of}
 use Rattle.sections.specs.Table.{Table, holder_at, is_in, queue_at}
 use Rattle.boxes.specs.Model.{State}
 use Rattle.world.specs.World.{World, box_at, state_at}
-use Rattle.port.specs.declared.walk.Next.{Next}
-use Rattle.port.specs.declared.walk.Next.TheVariants.{Out, Back, On}
+use Rattle.ring_search.specs.Chase.{chase}
 
 -- the one, or else the other
 abbrev pub or_else : {A : Type 0} → Option A → Option A → Option A
@@ -35,22 +34,18 @@ whom_by e (Some s) = whom_in s.keeper.table e
 abbrev pub whom_of : World → Engine → Option Holder
 whom_of w e = first_from (λ b. whom_by e.0 (state_at w (box_at b))) w.yard.boxes 0
 
--- on from an engine by whom it waits for: the way ends, comes back to the first, or goes on
-abbrev pub after_of : Option Holder → Engine → Next
-after_of None first = Out
-after_of (Some None) first = Out
-after_of (Some (Some next)) first = cond (next.0 == first.0) Back (On next)
+-- on from an engine by whom it waits for: the waits end where nobody has the section
+abbrev pub after_of : Option Holder → Option Engine
+after_of None = None
+after_of (Some None) = None
+after_of (Some (Some next)) = Some next
 
--- what a walk finds that has passed some engines, by where it goes on
-abbrev pub follow : List Engine → (Engine → Option (List Engine)) → Next → Option (List Engine)
-follow done on Out = None
-follow done on Back = Some done
-follow done on (On next) = on next
+abbrev pub same : Engine → Engine → Bool
+same a b = a.0 == b.0
 
 -- along waits from one engine, at most so many, until they come back to the first: the engines passed
-unfoldable pub walk : (Engine → Option Holder) → Engine → ℕ → Engine → List Engine → Option (List Engine)
-walk whom first zero at done = None
-walk whom first (suc left) at done = follow (done ++ at ∷ []) (λ next. walk whom first left next (done ++ at ∷ [])) (after_of (whom at) first)
+abbrev pub walk : (Engine → Option Holder) → Engine → ℕ → Engine → List Engine → Option (List Engine)
+walk whom = chase same (λ e. after_of (whom e))
 
 -- the ring that an engine stands in, from it on, if the waits come back to it
 abbrev pub ring_from : World → Engine → Option (List Engine)
