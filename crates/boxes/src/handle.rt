@@ -76,7 +76,7 @@ impl SignalBox {
         if to != self.home.number() {
             return send(to, Message::Waits(waits), effects);
         }
-        let event = self.home.waits(waits);
+        let event = self.home.waits(waits.engine, waits.section, waits.count);
         emit(&self.home, event, effects)
     }
 
@@ -118,7 +118,7 @@ impl SignalBox {
         if from != waits.section.keeper {
             return effects.say(Output::Refused(Refusal::Malformed));
         }
-        let event = self.home.waits(waits);
+        let event = self.home.waits(waits.engine, waits.section, waits.count);
         emit(&self.home, event, effects)
     }
 
