@@ -5,71 +5,51 @@ ghost use Rattle.rings.specs.Cases.{AlwaysCases};
 ghost use Rattle.rings.specs.Promise.{AlwaysReal, OnlyHighest, OneFinder, RingStays, OwnSigns, OnlyUp, AlwaysCodeSteps, AlwaysFound, FoundInAnyRun};
 
 // Whoever finds is in a ring of waits at that very moment, however late what it heard was told.
-pub fn real() -> u8
+pub fn real()
     ensures { AlwaysReal }
-{
-    0
-}
+{}
 
 // Whoever finds has the highest own sign of its ring.
-pub fn only_highest() -> u8
+pub fn only_highest()
     ensures { OnlyHighest }
-{
-    0
-}
+{}
 
 // Two who find in one ring are the same engine.
-pub fn one_finder() -> u8
+pub fn one_finder()
     ensures { OneFinder }
-{
-    0
-}
+{}
 
 // A ring stays until one in it finds.
-pub fn ring_stays() -> u8
+pub fn ring_stays()
     ensures { RingStays }
-{
-    0
-}
+{}
 
 // Own signs leave their engine's number and never pass what is shown.
-pub fn own_signs() -> u8
+pub fn own_signs()
     ensures { OwnSigns }
-{
-    0
-}
+{}
 
 // What is shown only rises.
-pub fn only_up() -> u8
+pub fn only_up()
     ensures { OnlyUp }
-{
-    0
-}
+{}
 
 // What `begin`, `hear` and `find` give is a step of the net.
-pub fn code_steps() -> u8
+pub fn code_steps()
     ensures { AlwaysCodeSteps }
-{
-    0
-}
+{}
 
 // Every ring is found by telling and hearing alone, with as many tellings as it has engines.
-pub fn found() -> u8
+pub fn found()
     ensures { AlwaysFound }
-{
-    0
-}
+{}
 
 // A ring is found in any run in which its highest own sign is told round once, in order.
-pub fn found_in_any_run() -> u8
+pub fn found_in_any_run()
     ensures { FoundInAnyRun }
-{
-    0
-}
+{}
 
 // The worked cases of four engines give what their rows say.
-pub fn worked_cases() -> u8
+pub fn worked_cases()
     ensures { AlwaysCases }
-{
-    0
-}
+{}

@@ -1,7 +1,7 @@
 // An engine that waits for another, and its signs: it begins to wait, hears what is told, and finds that it stands in a ring of waits.
 #![tactic(auto)]
 
-ghost use Rattle.std.specs.Prelude.{◌≡◌, ◌^◌, ◌<◌, ◌≤◌, IfOk};
+ghost use Rattle.std.specs.Prelude.{◌≡◌, ◌^◌, ◌<◌, ◌≤◌, IfOk, if◌then◌else◌};
 ghost use Rattle.signs.specs.Signs.{number_of, ahead_of, next_own, waits_by, begin_of, hear_of, find_of, listen_of};
 ghost use Rattle.signs.specs.Lowest.{Lowest};
 ghost use Rattle.std.specs.Option.{SomeIff};
@@ -9,7 +9,7 @@ ghost use Rattle.std.specs.Option.{SomeIff};
 pub mod table;
 
 // One engine by value. `wait`: for whom it waits. `count`: how often it has begun to wait. `shown`: the sign that it shows. `own`: the sign that it took when it last began.
-#[derive(Clone, Copy)]
+#[derive(Clone, Copy, PartialEq, Eq, Debug)]
 pub struct Engine {
     pub wait: Option<u8>,
     pub count: u32,
@@ -17,17 +17,17 @@ pub struct Engine {
     pub own: u64,
 }
 
-// What is refused, and nothing changes then.
-#[derive(Clone, Copy)]
+// What is refused, and nothing changes then. Each has the number that the yard's refusals are told by.
+#[derive(Clone, Copy, PartialEq, Eq, Debug)]
 pub enum Refusal {
-    OutOfRange,
-    Itself,
-    Stale,
-    Limit,
+    OutOfRange = 1,
+    Itself = 4,
+    Stale = 6,
+    Limit = 7,
 }
 
 // What comes of a sign: it is told on to those that wait for this engine, the engine stands in a ring, or nothing.
-#[derive(Clone, Copy)]
+#[derive(Clone, Copy, PartialEq, Eq, Debug)]
 pub enum Heard {
     TellOn(u64),
     Found,
@@ -38,12 +38,7 @@ impl Refusal {
     pub fn number(self) -> u8
         ensures { result ≡ number_of self }
     {
-        match self {
-            Refusal::OutOfRange => 1,
-            Refusal::Itself => 4,
-            Refusal::Stale => 6,
-            Refusal::Limit => 7,
-        }
+        self as u8
     }
 }
 
@@ -81,12 +76,8 @@ impl Engine {
         if whom == me {
             return Err(Refusal::Itself);
         }
-        let Some(own) = next_own(self.shown, me, engines) else {
-            return Err(Refusal::Limit);
-        };
-        let Some(count) = self.count.checked_add(1) else {
-            return Err(Refusal::Limit);
-        };
+        let own = next_own(self.shown, me, engines).ok_or(Refusal::Limit)?;
+        let count = self.count.checked_add(1).ok_or(Refusal::Limit)?;
         Ok(Engine {
             wait: Some(whom),
             count,
@@ -95,20 +86,22 @@ impl Engine {
         })
     }
 
-    // Does it wait for `by` since its `count`-th beginning.
-    fn waits_by(self, by: u8, count: u32) -> bool
-        ensures { result ≡ waits_by self by count }
+    // Refuses what is told of another wait than the one for `by` since its `count`-th beginning.
+    fn check_wait(self, by: u8, count: u32) -> Result<(), Refusal>
+        ensures { result ≡ (if waits_by self by count then Ok tt else Err Refusal.Stale) }
     {
-        self.wait == Some(by) && self.count == count
+        if self.wait == Some(by) && self.count == count {
+            Ok(())
+        } else {
+            Err(Refusal::Stale)
+        }
     }
 
     // A sign told by `by`: one above the sign shown is shown and told on.
     pub fn hear(self, by: u8, count: u32, sign: u64) -> Result<(Engine, Heard), Refusal>
         ensures { result ≡ hear_of self by count sign }
     {
-        if !self.waits_by(by, count) {
-            return Err(Refusal::Stale);
-        }
+        self.check_wait(by, count)?;
         if self.shown < sign {
             let after = Engine {
                 shown: sign,
@@ -123,9 +116,7 @@ impl Engine {
     pub fn find(self, by: u8, count: u32, sign: u64) -> Result<(Engine, Heard), Refusal>
         ensures { result ≡ find_of self by count sign }
     {
-        if !self.waits_by(by, count) {
-            return Err(Refusal::Stale);
-        }
+        self.check_wait(by, count)?;
         if sign == self.own && self.shown == self.own {
             let after = Engine { wait: None, ..self };
             return Ok((after, Heard::Found));

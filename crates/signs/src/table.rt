@@ -1,5 +1,5 @@
 // The table of a yard's sixty-four engines, changed at one engine at a time.
-ghost use Rattle.std.specs.Prelude.{◌≡◌};
+ghost use Rattle.std.specs.Prelude.{◌≡◌, if◌then◌else◌, nat_lt};
 ghost use Rattle.std.specs.List.{range_with_len};
 ghost use Rattle.signs.specs.Table.{fresh_of, get_of, put_of, FreshSigns, PutOne};
 
@@ -8,6 +8,7 @@ use super::{Engine, Refusal};
 // How many engines a yard has at most.
 pub const ENGINES: u8 = 64;
 
+// Four arrays of sixty-four side by side: a rule of the project, so that a box is fixed arrays of plain numbers.
 #[derive(Clone, Copy)]
 pub struct Engines {
     waits: [Option<u8>; 64],
@@ -16,15 +17,22 @@ pub struct Engines {
     own: [u64; 64],
 }
 
+// Where the engine stands in each array.
+fn place(e: u8) -> Result<usize, Refusal>
+    ensures { result ≡ (if nat_lt e 64 then Ok e else Err Refusal.OutOfRange) }
+{
+    if e < ENGINES {
+        Ok(e as usize)
+    } else {
+        Err(Refusal::OutOfRange)
+    }
+}
+
 // The first sign of every engine: its number.
 fn numbers() -> [u64; 64]
     ensures { result ≡ range_with_len 0 64 }
 {
-    let mut signs = [0; 64];
-    for e in 0u8..ENGINES {
-        signs[e as usize] = e as u64;
-    }
-    signs
+    std::array::from_fn(|e| e as u64)
 }
 
 impl Engines {
@@ -44,10 +52,7 @@ impl Engines {
     pub fn get(&self, e: u8) -> Result<Engine, Refusal>
         ensures { result ≡ get_of self.now e }
     {
-        if e >= ENGINES {
-            return Err(Refusal::OutOfRange);
-        }
-        let i = e as usize;
+        let i = place(e)?;
         Ok(Engine {
             wait: self.waits[i],
             count: self.counts[i],
@@ -61,10 +66,7 @@ impl Engines {
         ensures value { (self.new, result) ≡ put_of self.old e engine }
         ensures others { PutOne }
     {
-        if e >= ENGINES {
-            return Err(Refusal::OutOfRange);
-        }
-        let i = e as usize;
+        let i = place(e)?;
         self.waits[i] = engine.wait;
         self.counts[i] = engine.count;
         self.shown[i] = engine.shown;
@@ -74,8 +76,6 @@ impl Engines {
 }
 
 // A fresh table has at each place an engine that waits for nobody and shows its number.
-pub fn fresh_signs() -> u8
+pub fn fresh_signs()
     ensures { FreshSigns }
-{
-    0
-}
+{}

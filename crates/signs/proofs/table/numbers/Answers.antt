@@ -1,16 +1,10 @@
--- One place more has its number; at the end every place has, so the array is the numbers in order.
+-- At each place the closure gave the place's own number.
 -- Assumes nothing.
-use Rattle.std.proofs.Common.{ℕ, ◌∙◌, arith, length-set}
+use Rattle.std.proofs.Common.{ℕ, rules}
 use Rattle.std.proofs.lemmas.List.FromFn.{fill_by_all}
-use Rattle.std.proofs.lemmas.List.Edits.{fill_by_more}
 use Rattle.signs.proofs.table.numbers.Goals as goal
-
-pub loop-e-preserved : goal.loop-e-preserved
-loop-e-preserved c = (
-  length-set c.loop-e.signs c.loop-e.e c.loop-e.e ∙ c.loop-e.invariant.0,
-  fill_by_more (λ (k : ℕ). k) c.loop-e.signs c.loop-e.e 0 (omega arith) c.loop-e.invariant.1,
-)
 
 pub returns : goal.returns
 returns c =
-    fill_by_all (λ (k : ℕ). k) c.loop-e.signs 64 0 c.loop-e.invariant.0 (λ k h. c.loop-e.invariant.1 k (omega arith))
+    let made = c.from_fn.ensures.items in
+    fill_by_all (λ (k : ℕ). k) c.from_fn.result 64 0 made.long (λ k h. let call = made.at k 0 h in let said = call.2 in search rules)
