@@ -1,6 +1,5 @@
 -- Each turn is one engine more.
 use Rattle.std.proofs.Common.{rules, refl}
-use Rattle.home.specs.Queries.{engine}
 use Rattle.boxes.specs.Log.{each}
 use Rattle.boxes.specs.Handle.{reminder_for}
 use Rattle.boxes.proofs.Each.{numbered, turn_over}
@@ -13,6 +12,6 @@ loop-engine-init c = refl
 pub loop-engine-preserved : goal.loop-engine-preserved
 loop-engine-preserved c =
     let items = c.map-engine-items.ensures in
-    let all = numbered engine c.args.self.now.home.yard.engines _ _ c.into_iter-engine-iterator.ensures.into_iter_gives items.source items.closure (λ n e q k. search rules) in
+    let all = numbered (λ n. record { 0 = n }) _ _ _ c.into_iter-engine-iterator.ensures.into_iter_gives items.source items.closure (λ n e q k. search rules) in
     turn_over _ (reminder_for c.args.self.now.home) _ all c.loop-engine.yielded _ c.loop-engine.yielded_by _ _ c.in-Some.engine c.in-Some.is c.next.ensures.steps
     _ _ _ c.loop-engine.invariant c.in_ok-remind.ensures
