@@ -12,7 +12,7 @@ use Rattle.messages.specs.declared.message.Refusal.TheVariants as refusal
 use Rattle.messages.specs.declared.message.Reply.{Reply}
 use Rattle.messages.specs.declared.message.Reply.TheVariants as reply
 use Rattle.signs.specs.declared.Engine as signs
-use Rattle.signs.specs.declared.Refusal as signRefusal
+use Rattle.signs.specs.declared.Refusal as sign_refusal
 use Rattle.signs.specs.declared.Refusal.TheVariants.{OutOfRange, Itself, Stale, Limit}
 use Rattle.signs.specs.declared.Heard as sound
 use Rattle.signs.specs.declared.Heard.TheVariants.{TellOn, Found, PassedOver}
@@ -27,7 +27,7 @@ use Rattle.engine_state.specs.State.{made, begun, heard, knowing}
 use Rattle.engine_state.specs.Calls.{open_of, wait_of, next_call}
 
 -- the refusals of signs, by the yard's numbers
-abbrev pub refused_for : signRefusal.Refusal → Refusal
+abbrev pub refused_for : sign_refusal.Refusal → Refusal
 refused_for OutOfRange = refusal.Malformed
 refused_for Itself = refusal.Mismatch
 refused_for Stale = refusal.Stale
@@ -41,7 +41,12 @@ is_engine (Some x) e = x.0 == e.0
 abbrev pub refuse : State → Refusal → State × Event
 refuse x r = (x, event.Refused r)
 
-abbrev pub begun_with : State → Engine → Section → ℕ → Engine → Result signs.Engine signRefusal.Refusal → State × Event
+-- what a step gave; where it turned the input away, nothing changes
+abbrev pub told : State → Result (State × Event) Refusal → State × Event
+told x (Err r) = refuse x r
+told x (Ok p) = p
+
+abbrev pub begun_with : State → Engine → Section → ℕ → Engine → Result signs.Engine sign_refusal.Refusal → State × Event
 begun_with x e s change whom (Err r) = refuse x (refused_for r)
 begun_with x e s change whom (Ok y) = (begun x s change whom y.count y.own, event.Began (record { engine = e; section = s; change = change; holder = whom; count = y.count; own = y.own }))
 
@@ -119,7 +124,7 @@ gave_up_by x (Ok c) = (made x c, event.Found c)
 abbrev pub found_at : State → Engine → Section → State × Event
 found_at x e s = gave_up_by x (next_call x act.GiveUp e s)
 
-abbrev pub listened : State → Engine → Section → Result (signs.Engine × sound.Heard) signRefusal.Refusal → State × Event
+abbrev pub listened : State → Engine → Section → Result (signs.Engine × sound.Heard) sign_refusal.Refusal → State × Event
 listened x e s (Err r) = refuse x (refused_for r)
 listened x e s (Ok (y, TellOn sign)) = (heard x sign, event.Heard e sign)
 listened x e s (Ok (y, Found)) = found_at x e s

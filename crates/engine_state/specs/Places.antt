@@ -1,5 +1,6 @@
 -- A set of sections, box by box a word with a bit for each place. Assumes nothing.
-use Rattle.std.specs.Prelude.{ℕ, ◌*◌, ◌/◌, ◌%◌, ◌^◌, Bool, true, false, cond, ◌&&◌, List, [], ◌∷◌, replicate, ◌==◌, bit_and, bit_or, bit_xor, nat_lt, slice_index, slice_set}
+use Rattle.std.specs.Prelude.{ℕ, ◌*◌, ◌/◌, ◌%◌, ◌^◌, Bool, false, cond, ◌&&◌, replicate, ◌==◌, bit_and, bit_or, bit_xor, nat_lt, slice_index, slice_set}
+use Rattle.std.specs.List.{list_all}
 use Rattle.messages.specs.declared.yard.Section.{Section}
 use Rattle.engine_state.specs.declared.places.Places.{Places}
 
@@ -39,10 +40,6 @@ with_of x s = cond (fits s) (with_word x s (bit_or (word_of x s) (bit s.place)))
 abbrev pub without_of : Places → Section → Places
 without_of x s = cond (fits s) (with_word x s (bit_xor (word_of x s) (bit_and (word_of x s) (bit s.place)))) x
 
-abbrev pub all_zero : List ℕ → Bool
-all_zero [] = true
-all_zero (w ∷ ws) = cond (w == 0) (all_zero ws) false
-
 -- the set has no section
 abbrev pub empty_of : Places → Bool
-empty_of x = all_zero x.words
+empty_of x = list_all (λ word. word == 0) x.words

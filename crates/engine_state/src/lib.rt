@@ -5,5 +5,5 @@ mod inputs;
 mod places;
 mod state;
 
-pub use places::{Places, is_same};
+pub use places::Places;
 pub use state::{Asked, Event, Known, Mode, State, Stored, Wait};

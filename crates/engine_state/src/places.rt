@@ -1,24 +1,14 @@
 // A set of track sections: for each box the set of its places, a bit for each.
 ghost use Rattle.std.specs.Prelude.{◌≡◌};
-ghost use Rattle.engine_state.specs.Places.{fits, same_section, has_of, with_of, without_of, empty_of, no_place};
+ghost use Rattle.engine_state.specs.Places.{fits, has_of, with_of, without_of, empty_of, no_place};
 
-use messages::Section;
-
-pub const BOXES: u8 = 16;
-
-pub const PLACES: u8 = 64;
+use messages::{MOST_BOXES, PLACES, Section};
 
 // Is it a section that a yard can have.
-pub fn is_real(section: Section) -> bool
+fn is_real(section: Section) -> bool
     ensures { result ≡ fits section }
 {
-    section.keeper.0 < BOXES && section.place < PLACES
-}
-
-pub fn is_same(a: Section, b: Section) -> bool
-    ensures { result ≡ same_section a b }
-{
-    a.keeper.0 == b.keeper.0 && a.place == b.place
+    section.keeper.0 < MOST_BOXES && section.place < PLACES
 }
 
 #[derive(Clone, Copy)]
@@ -36,46 +26,32 @@ impl Places {
     pub fn has(&self, section: Section) -> bool
         ensures { result ≡ has_of self.now section }
     {
-        if !is_real(section) {
-            return false;
-        }
-        let word = self.words[section.keeper.0 as usize];
-        (word >> section.place) % 2 == 1
+        is_real(section) && (self.words[section.keeper.0 as usize] >> section.place) % 2 == 1
     }
 
     // The set with a section, if a yard can have it.
-    pub fn with(self, section: Section) -> Places
+    pub fn with(mut self, section: Section) -> Places
         ensures { result ≡ with_of self section }
     {
-        if !is_real(section) {
-            return self;
+        if is_real(section) {
+            self.words[section.keeper.0 as usize] |= 1 << section.place;
         }
-        let i = section.keeper.0 as usize;
-        let mut words = self.words;
-        words[i] = words[i] | (1 << section.place);
-        Places { words }
+        self
     }
 
-    pub fn without(self, section: Section) -> Places
+    pub fn without(mut self, section: Section) -> Places
         ensures { result ≡ without_of self section }
     {
-        if !is_real(section) {
-            return self;
+        if is_real(section) {
+            let word = &mut self.words[section.keeper.0 as usize];
+            *word ^= *word & (1 << section.place);
         }
-        let i = section.keeper.0 as usize;
-        let mut words = self.words;
-        words[i] = words[i] ^ (words[i] & (1 << section.place));
-        Places { words }
+        self
     }
 
     pub fn is_empty(&self) -> bool
         ensures { result ≡ empty_of self.now }
     {
-        for i in 0usize..16 {
-            if self.words[i] != 0 {
-                return false;
-            }
-        }
-        true
+        self.words.iter().all(|word| *word == 0)
     }
 }

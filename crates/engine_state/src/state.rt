@@ -1,13 +1,13 @@
 // One engine of a home by value: what is stored of it, and what is known besides.
 ghost use Rattle.std.specs.Prelude.{◌≡◌};
-ghost use Rattle.engine_state.specs.State.{wanted, mode_section, next_number, kept_after, asked_after, stored_after, made, begun, heard, knowing};
+ghost use Rattle.engine_state.specs.State.{wanted, mode_section, next_number, numbered, kept_after, asked_after, stored_after, made, begun, heard, knowing};
 ghost use Rattle.engine_state.specs.Calls.{open_of, wait_of, had_of, holds_by, holds_of, is_that, holds_any, giving_back, next_call, take_call, free_call};
 
-use crate::places::{BOXES, Places, is_same};
-use messages::{Act, BoxNumber, Call, Engine, Refusal, Section};
+use crate::places::Places;
+use messages::{Act, Beginning, BoxNumber, Call, Engine, MOST_BOXES, Refusal, Section, Sign};
 
 // The last of the engine's own records. For whom it waits is in its signs.
-#[derive(Clone, Copy)]
+#[derive(Clone, Copy, PartialEq, Eq)]
 pub enum Mode {
     Idle,
     Called {
@@ -22,7 +22,7 @@ pub enum Mode {
 }
 
 // How the mode's business ended: not known to have ended, the engine has the mode's section, or otherwise.
-#[derive(Clone, Copy)]
+#[derive(Clone, Copy, PartialEq, Eq)]
 pub enum Known {
     Pending,
     Had,
@@ -30,7 +30,7 @@ pub enum Known {
 }
 
 // The last call that isn't a free.
-#[derive(Clone, Copy)]
+#[derive(Clone, Copy, PartialEq, Eq)]
 pub enum Asked {
     Nothing,
     Took,
@@ -54,7 +54,7 @@ pub struct State {
 }
 
 // A standing wait: for which section, for whom, by which beginning, and of which change.
-#[derive(Clone, Copy)]
+#[derive(Clone, Copy, PartialEq, Eq)]
 pub struct Wait {
     pub section: Section,
     pub whom: Engine,
@@ -63,42 +63,24 @@ pub struct Wait {
 }
 
 // What came of one input at one engine, with all that is to be recorded and sent.
-#[derive(Clone, Copy)]
+#[derive(Clone, Copy, PartialEq, Eq)]
 pub enum Event {
     PassedOver,
     // Turned away: nothing changed.
     Refused(Refusal),
     // The keeper refused the open call, which is over.
     RefusedBy(Refusal),
-    Had {
-        engine: Engine,
-        section: Section,
-    },
+    Had { engine: Engine, section: Section },
     // A free or a give up was done.
     Closed,
     // A call of the driver.
     Called(Call),
     // The engine stands in a ring: the give up by which it leaves it.
     Found(Call),
-    Began {
-        engine: Engine,
-        section: Section,
-        change: u32,
-        holder: Engine,
-        count: u32,
-        own: u64,
-    },
-    Heard {
-        engine: Engine,
-        sign: u64,
-    },
-    // `to` waits for what `by` holds, and is told the sign that `by` shows.
-    Noted {
-        to: Engine,
-        count: u32,
-        by: Engine,
-        sign: u64,
-    },
+    Began(Beginning),
+    Heard { engine: Engine, sign: u64 },
+    // An engine waits for what one of ours holds, and is told the sign that this one shows.
+    Noted(Sign),
 }
 
 impl Mode {
@@ -108,12 +90,7 @@ impl Mode {
     {
         match self {
             Mode::Idle => None,
-            Mode::Called {
-                act: _,
-                section,
-                number: _,
-            } => Some(section),
-            Mode::Waiting { section, change: _ } => Some(section),
+            Mode::Called { section, .. } | Mode::Waiting { section, .. } => Some(section),
         }
     }
 
@@ -125,9 +102,9 @@ impl Mode {
             Mode::Called {
                 act: Act::Take,
                 section,
-                number: _,
-            } => Some(section),
-            Mode::Waiting { section, change: _ } => Some(section),
+                ..
+            }
+            | Mode::Waiting { section, .. } => Some(section),
             Mode::Idle | Mode::Called { .. } => None,
         }
     }
@@ -150,30 +127,14 @@ impl Stored {
     fn next_number(&self, keeper: BoxNumber) -> Option<u32>
         ensures { result ≡ next_number self.now keeper }
     {
-        if keeper.0 >= BOXES {
-            return None;
-        }
-        self.used[keeper.0 as usize].checked_add(1)
-    }
-
-    // Is the mode about the section.
-    fn is_about(&self, section: Section) -> bool
-        ensures { result ≡ is_that (mode_section self.now.mode) section }
-    {
-        match self.mode.section() {
-            Some(about) => is_same(about, section),
-            None => false,
-        }
+        self.used.get(keeper.0 as usize)?.checked_add(1)
     }
 
     // Does the engine hold the section, if this is stored of it and that is known.
     pub fn holds(&self, known: Known, section: Section) -> bool
         ensures { result ≡ holds_by self.now known section }
     {
-        match known {
-            Known::Had => self.is_about(section) || self.kept.has(section),
-            Known::Pending | Known::Closed => self.kept.has(section),
-        }
+        known == Known::Had && self.mode.section() == Some(section) || self.kept.has(section)
     }
 
     // The sections kept after a call: what was wanted and isn't given up by it the engine must have got, and what it frees is held no more.
@@ -181,11 +142,10 @@ impl Stored {
         ensures { result ≡ kept_after self call }
     {
         let kept = match self.mode.wanted() {
-            None => self.kept,
-            Some(section) => match call.act {
-                Act::GiveUp if is_same(call.section, section) => self.kept,
-                Act::Take | Act::Free | Act::GiveUp => self.kept.with(section),
-            },
+            Some(section) if call.act != Act::GiveUp || call.section != section => self
+                .kept
+                .with(section),
+            _ => self.kept,
         };
         match call.act {
             Act::Free => kept.without(call.section),
@@ -193,20 +153,27 @@ impl Stored {
         }
     }
 
+    // The last call numbers after a call.
+    fn used_after(self, call: Call) -> [u32; 16]
+        ensures { result ≡ numbered self.used call.section.keeper call.number }
+    {
+        let mut used = self.used;
+        if call.section.keeper.0 < MOST_BOXES {
+            used[call.section.keeper.0 as usize] = call.number;
+        }
+        used
+    }
+
     fn after(self, call: Call) -> Stored
         ensures { result ≡ stored_after self call }
     {
-        let mut used = self.used;
-        if call.section.keeper.0 < BOXES {
-            used[call.section.keeper.0 as usize] = call.number;
-        }
         Stored {
             mode: Mode::Called {
                 act: call.act,
                 section: call.section,
                 number: call.number,
             },
-            used,
+            used: self.used_after(call),
             kept: self.kept_after(call),
             asked: self.asked.after(call.act),
         }
@@ -222,32 +189,30 @@ impl State {
             stored: self.stored.after(call),
             known: Known::Pending,
             signs: signs::Engine {
-                wait: signs::Wait::Nobody,
-                count: self.signs.count,
-                shown: self.signs.shown,
-                own: self.signs.own,
+                wait: None,
+                ..self.signs
             },
         }
     }
 
-    // A beginning to wait for `whom`: it is the mode, and pending.
-    pub fn begun(self, section: Section, change: u32, whom: Engine, count: u32, own: u64) -> State
-        ensures { result ≡ begun self section change whom count own }
+    // A beginning to wait: it is the mode, and pending.
+    pub fn begun(self, start: Beginning) -> State
+        ensures { result ≡ begun self start.section start.change start.holder start.count start.own }
     {
-        let used = self.stored.used;
         State {
             stored: Stored {
-                mode: Mode::Waiting { section, change },
-                used,
-                kept: self.stored.kept,
-                asked: self.stored.asked,
+                mode: Mode::Waiting {
+                    section: start.section,
+                    change: start.change,
+                },
+                ..self.stored
             },
             known: Known::Pending,
             signs: signs::Engine {
-                wait: signs::Wait::For(whom.0),
-                count,
-                shown: own,
-                own,
+                wait: Some(start.holder.0),
+                count: start.count,
+                shown: start.own,
+                own: start.own,
             },
         }
     }
@@ -257,25 +222,18 @@ impl State {
         ensures { result ≡ heard self sign }
     {
         State {
-            stored: self.stored,
-            known: self.known,
             signs: signs::Engine {
-                wait: self.signs.wait,
-                count: self.signs.count,
                 shown: sign,
-                own: self.signs.own,
+                ..self.signs
             },
+            ..self
         }
     }
 
     pub fn knowing(self, known: Known) -> State
         ensures { result ≡ knowing self known }
     {
-        State {
-            stored: self.stored,
-            known,
-            signs: self.signs,
-        }
+        State { known, ..self }
     }
 
     // Is a call of the engine open.
@@ -305,14 +263,12 @@ impl State {
         ensures { result ≡ wait_of self }
     {
         match (self.known, self.stored.mode, self.signs.wait) {
-            (Known::Pending, Mode::Waiting { section, change }, signs::Wait::For(whom)) => Some(
-                Wait {
-                    section,
-                    whom: Engine(whom),
-                    count: self.signs.count,
-                    change,
-                },
-            ),
+            (Known::Pending, Mode::Waiting { section, change }, Some(whom)) => Some(Wait {
+                section,
+                whom: Engine(whom),
+                count: self.signs.count,
+                change,
+            }),
             _ => None,
         }
     }
@@ -337,20 +293,14 @@ impl State {
     fn holds_any(self) -> bool
         ensures { result ≡ holds_any self }
     {
-        match self.had() {
-            Some(_) => true,
-            None => !self.stored.kept.is_empty(),
-        }
+        self.had().is_some() || !self.stored.kept.is_empty()
     }
 
     // It gave up, and still holds what it has to free.
     pub fn is_giving_back(self) -> bool
         ensures { result ≡ giving_back self }
     {
-        match self.stored.asked {
-            Asked::GaveUp => self.holds_any(),
-            Asked::Nothing | Asked::Took => false,
-        }
+        self.stored.asked == Asked::GaveUp && self.holds_any()
     }
 
     // The next call to a section's box.
@@ -362,15 +312,16 @@ impl State {
     ) -> Result<Call, Refusal>
         ensures { result ≡ next_call self act engine section }
     {
-        match self.stored.next_number(section.keeper) {
-            Some(number) => Ok(Call {
-                act,
-                engine,
-                section,
-                number,
-            }),
-            None => Err(Refusal::Exhausted),
-        }
+        let number = self
+            .stored
+            .next_number(section.keeper)
+            .ok_or(Refusal::Exhausted)?;
+        Ok(Call {
+            act,
+            engine,
+            section,
+            number,
+        })
     }
 
     // The call by which it takes a section.

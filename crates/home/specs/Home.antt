@@ -1,5 +1,6 @@
 -- The engines of a box, read and changed at one of them. Assumes nothing.
 use Rattle.std.specs.Prelude.{◌≡◌, ℕ, ◌%◌, Bool, true, false, cond, ◌&&◌, replicate, Ok, Err, Result, ◌==◌, nat_lt, slice_index_or, slice_set, None}
+use Rattle.std.specs.Bool.{MatchBool}
 use Rattle.messages.specs.declared.yard.BoxNumber.{BoxNumber}
 use Rattle.messages.specs.declared.yard.Engine.{Engine}
 use Rattle.messages.specs.declared.yard.Section.{Section}
@@ -56,6 +57,10 @@ IsState h e (Err r) = (is_ours h e ≡ false) × (r ≡ refusal.Malformed)
 -- a change of one of ours; whatever isn't ours is passed over
 abbrev pub if_ours : Home → Engine → (State → State) → Home
 if_ours h e f = cond (is_ours h e) (with h e (f (at h e))) h
+
+-- what is recorded of one of ours has changed it as told; whatever isn't ours is passed over
+abbrev pub Recorded : Home → Engine → (State → State → Type 0) → Home → Type 0
+Recorded h e Changes g = MatchBool (is_ours h e) ((x : State) × Changes (at h e) x × (g ≡ with h e x)) (g ≡ h)
 
 -- a call of one of ours, made
 abbrev pub made_of : Home → Call → Home

@@ -1,5 +1,6 @@
 -- What each input makes of a home, and the event that it gives. Assumes nothing.
-use Rattle.std.specs.Prelude.{ℕ, Bool, false, cond, not, ◌&&◌, ◌||◌, List, map, Some, None, Ok, Err, Option, Result, nat_le, nat_lt, slice_set}
+use Rattle.std.specs.Prelude.{◌≡◌, ℕ, Bool, true, false, cond, not, ◌&&◌, ◌||◌, List, map, Some, None, Ok, Err, Option, Result, nat_le, nat_lt, slice_set}
+use Rattle.std.specs.Bool.{MatchBool}
 use Rattle.messages.specs.declared.yard.BoxNumber.{BoxNumber}
 use Rattle.messages.specs.declared.yard.Engine.{Engine}
 use Rattle.messages.specs.declared.yard.Section.{Section}
@@ -32,6 +33,11 @@ abbrev pub unless_for : Section → Noted → Noted
 unless_for s None = None
 unless_for s (Some seen) = cond (same_section seen.section s) None (Some seen)
 
+-- what is read of an engine that asks for a section: its state, if it is ours and the section one of the yard's
+abbrev pub IsStateFor : Home → Engine → Section → Result State Refusal → Type 0
+IsStateFor h e s (Ok x) = (is_ours h e ≡ true) × (has_section h s ≡ true) × (x ≡ at h e)
+IsStateFor h e s (Err r) = ((is_ours h e && has_section h s) ≡ false) × (r ≡ refusal.Malformed)
+
 -- the call that a take makes: of one of ours, of a section of the yard
 abbrev pub taking : Home → Engine → Section → Result Call Refusal
 taking h e s = cond (is_ours h e) (cond (has_section h s) (take_call (at h e) e s) (Err refusal.Malformed)) (Err refusal.Malformed)
@@ -62,6 +68,10 @@ put_in h e p = (with h e p.0, p.1)
 -- an input at one of ours
 abbrev pub at_ours : Home → Engine → (State → State × Event) → Home × Event
 at_ours h e f = cond (is_ours h e) (put_in h e (f (at h e))) (h, event.Refused refusal.Malformed)
+
+-- what a step at one of ours gave, put into the home; whatever isn't ours is turned away
+abbrev pub Stepped : Home → Engine → (State → State × Event → Type 0) → Home → Event → Type 0
+Stepped h e Gives g told = MatchBool (is_ours h e) ((x : State) × Gives (at h e) (x, told) × (g ≡ with h e x)) ((g ≡ h) × (told ≡ event.Refused refusal.Malformed))
 
 abbrev pub answer_of : Home → BoxNumber → Engine → ℕ → Reply → Holder → ℕ → Home × Event
 answer_of h from e n r holder change = at_ours h e (λ x. answer_at x from e h.yard.engines n r holder change)

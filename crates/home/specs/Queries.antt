@@ -1,5 +1,6 @@
 -- What is asked of a home, by one of its engines. Assumes nothing.
-use Rattle.std.specs.Prelude.{ℕ, zero, suc, ◌+◌, Bool, false, cond, ◌&&◌, Some, None, Option, ◌==◌, nat_lt, slice_index, slice_index_or}
+use Rattle.std.specs.Prelude.{ℕ, ◌+◌, Bool, false, cond, ◌&&◌, map, Some, None, Option, ◌==◌, nat_lt, slice_index, slice_index_or}
+use Rattle.std.specs.List.{find, range_with_len}
 use Rattle.messages.specs.declared.yard.Engine.{Engine}
 use Rattle.messages.specs.declared.yard.Section.{Section}
 use Rattle.messages.specs.declared.message.Call.{Call}
@@ -36,18 +37,13 @@ note_at h e = cond (nat_lt e.0 64) (slice_index_or h.notes e.0 None) None
 abbrev pub engine : ℕ → Engine
 engine n = record { 0 = n }
 
-abbrev pub or_else : Option Engine → Option Engine → Option Engine
-or_else None y = y
-or_else (Some x) y = Some x
-
--- the lowest below a number that passes a test
-unfoldable pub lowest_below : (Engine → Bool) → ℕ → Option Engine
-lowest_below f zero = None
-lowest_below f (suc n) = or_else (lowest_below f n) (cond (f (engine n)) (Some (engine n)) None)
+-- the lowest of a yard's engines that passes a test
+unfoldable pub lowest : (Engine → Bool) → Option Engine
+lowest passes = find passes (map engine (range_with_len 0 64))
 
 -- the lowest of ours that holds a section
 abbrev pub holder_of : Home → Section → Option Engine
-holder_of h s = lowest_below (λ e. holds_at h e s) 64
+holder_of h s = lowest (λ e. holds_at h e s)
 
 -- a call of one of ours has the number after the last one used with that box
 abbrev pub is_next : Home → Call → Bool

@@ -1,19 +1,19 @@
 // The engines of one box: each input changes one of them, or is turned away.
 ghost use Rattle.std.specs.Prelude.{◌≡◌, ◌<◌};
-ghost use Rattle.home.specs.Home.{fresh_home, is_home, is_ours, IsState, with, made_of, heard_of, apply_of};
+ghost use Rattle.home.specs.Home.{fresh_home, is_home, is_ours, IsState, with, made_of, apply_of, Recorded};
 
 use engine_state::{Asked, Known, Mode, Places, State, Stored};
 use messages::{BoxNumber, Call, Engine, Record, Refusal, Section, Yard};
 use signs::table::Engines;
 
 // That an engine said that it waits, by its beginning `count`, for a section that one of ours holds.
-#[derive(Clone, Copy)]
-pub enum Note {
-    Nothing,
-    Waits { section: Section, count: u32 },
+#[derive(Clone, Copy, PartialEq, Eq)]
+pub struct Note {
+    pub section: Section,
+    pub count: u32,
 }
 
-// `signs` and `stored` are rebuilt from the file; `known` and `notes` are lost when the box stops.
+// `signs` and `stored` are rebuilt from the file; `known` and `notes` are lost when the box stops. So they stand apart.
 #[derive(Clone, Copy)]
 pub struct Home {
     pub(crate) yard: Yard,
@@ -21,14 +21,14 @@ pub struct Home {
     pub(crate) signs: Engines,
     pub(crate) stored: [Stored; 64],
     pub(crate) known: [Known; 64],
-    pub(crate) notes: [Note; 64],
+    pub(crate) notes: [Option<Note>; 64],
 }
 
 // Is the box the home of the engine, in that yard.
 pub fn is_home(yard: Yard, number: BoxNumber, engine: Engine) -> bool
     ensures { result ≡ is_home yard number engine }
 {
-    engine.0 < yard.engines && engine.0 % yard.boxes == number.0
+    engine.0 < yard.engines && yard.home(engine) == number
 }
 
 impl Home {
@@ -48,7 +48,7 @@ impl Home {
             signs: Engines::new(),
             stored: [blank; 64],
             known: [Known::Pending; 64],
-            notes: [Note::Nothing; 64],
+            notes: [None; 64],
         }
     }
 
@@ -65,9 +65,7 @@ impl Home {
         if !self.is_ours(engine) {
             return Err(Refusal::Malformed);
         }
-        let Ok(signs) = self.signs.get(engine.0) else {
-            return Err(Refusal::Malformed);
-        };
+        let signs = self.signs.get(engine.0).map_err(|_| Refusal::Malformed)?;
         let i = engine.0 as usize;
         Ok(State {
             stored: self.stored[i],
@@ -86,20 +84,20 @@ impl Home {
         self.known[i] = state.known;
     }
 
-    pub(crate) fn record_made(&mut self, call: Call)
-        ensures { self.new ≡ made_of self.old call }
+    // What is recorded of one of ours changes it.
+    pub(crate) fn record<F: FnOnce(State) -> State>(&mut self, engine: Engine, change: F)
+        requires { F.IsAlwaysCallable change }
+        ensures { Recorded self.old engine (F.post change) self.new }
     {
-        if let Ok(state) = self.state(call.engine) {
-            self.put(call.engine, state.made(call));
+        if let Ok(state) = self.state(engine) {
+            self.put(engine, change(state));
         }
     }
 
-    fn record_heard(&mut self, engine: Engine, sign: u64)
-        ensures { self.new ≡ heard_of self.old engine sign }
+    pub(crate) fn record_made(&mut self, call: Call)
+        ensures { self.new ≡ made_of self.old call }
     {
-        if let Ok(state) = self.state(engine) {
-            self.put(engine, state.heard(sign));
-        }
+        self.record(call.engine, |state| state.made(call));
     }
 
     // What a record of one of ours makes of it, in a running box and at opening alike.
@@ -109,19 +107,8 @@ impl Home {
         match entry {
             Record::Kept(_) => {}
             Record::Made(call) => self.record_made(call),
-            Record::Beginning {
-                engine,
-                section,
-                change,
-                holder,
-                count,
-                own,
-            } => {
-                if let Ok(state) = self.state(engine) {
-                    self.put(engine, state.begun(section, change, holder, count, own));
-                }
-            }
-            Record::Heard { engine, sign } => self.record_heard(engine, sign),
+            Record::Beginning(start) => self.record(start.engine, |state| state.begun(start)),
+            Record::Heard { engine, sign } => self.record(engine, |state| state.heard(sign)),
         }
     }
 }

@@ -4,27 +4,19 @@ ghost use Rattle.home.specs.Queries.{open_at, wait_at, holds_at, giving_back_at,
 
 use crate::home::{Home, Note};
 use engine_state::Wait;
-use messages::{Call, Engine, Section};
-
-const ENGINES: u8 = 64;
+use messages::{Call, Engine, MOST_ENGINES, Section};
 
 impl Home {
     pub fn open_call(&self, engine: Engine) -> Option<Call>
         ensures { result ≡ open_at self.now engine }
     {
-        match self.state(engine) {
-            Ok(state) => state.open_call(engine),
-            Err(_) => None,
-        }
+        self.state(engine).ok()?.open_call(engine)
     }
 
     pub fn wait(&self, engine: Engine) -> Option<Wait>
         ensures { result ≡ wait_at self.now engine }
     {
-        match self.state(engine) {
-            Ok(state) => state.wait(),
-            Err(_) => None,
-        }
+        self.state(engine).ok()?.wait()
     }
 
     pub fn holds(&self, engine: Engine, section: Section) -> bool
@@ -40,42 +32,30 @@ impl Home {
     pub fn is_giving_back(&self, engine: Engine) -> bool
         ensures { result ≡ giving_back_at self.now engine }
     {
-        match self.state(engine) {
-            Ok(state) => state.is_giving_back(),
-            Err(_) => false,
-        }
+        self.state(engine).is_ok_and(|state| state.is_giving_back())
     }
 
     // The signs and the count of one of ours.
     pub fn signs(&self, engine: Engine) -> Option<signs::Engine>
         ensures { result ≡ signs_at self.now engine }
     {
-        match self.state(engine) {
-            Ok(state) => Some(state.signs),
-            Err(_) => None,
-        }
+        Some(self.state(engine).ok()?.signs)
     }
 
     // What is noted of an engine of the yard.
-    pub fn note(&self, engine: Engine) -> Note
+    pub fn note(&self, engine: Engine) -> Option<Note>
         ensures { result ≡ note_at self.now engine }
     {
-        if engine.0 < ENGINES {
-            self.notes[engine.0 as usize]
-        } else {
-            Note::Nothing
-        }
+        *self.notes.get(engine.0 as usize)?
     }
 
     // The lowest of ours that holds the section.
+    #[tactic(auto, unfolding(crate::specs::Queries::lowest))]
     pub fn holder_of(&self, section: Section) -> Option<Engine>
         ensures { result ≡ holder_of self.now section }
     {
-        for i in 0u8..ENGINES {
-            if self.holds(Engine(i), section) {
-                return Some(Engine(i));
-            }
-        }
-        None
+        (0..MOST_ENGINES)
+            .map(Engine)
+            .find(|engine| self.holds(*engine, section))
     }
 }

@@ -1,12 +1,14 @@
 -- A free clears the section's bit; and the lowest holder found is one that holds.
 use Rattle.std.specs.Prelude.{None, Some}
-use Rattle.std.proofs.Common.{◌≡◌, ℕ, zero, suc, Bool, true, false, cond, not, ◌||◌, ltb, leb, length, set, Some, None, Option, sym, refl, ap, ◌∙◌, subst, arith, length-set, get_or-set_same}
+use Rattle.std.proofs.Common.{◌≡◌, ℕ, Bool, true, false, cond, not, ◌||◌, ltb, leb, List, [], ◌∷◌, map, length, set, Some, None, Option, sym, refl, ap, ◌∙◌, subst, arith, length-set, get_or-set_same}
 use Rattle.std.proofs.lemmas.Bool.{ltb-true, and_parts}
+use Rattle.std.specs.List.{find, range_with_len}
 use Rattle.messages.specs.declared.yard.Engine.{Engine}
 use Rattle.messages.specs.declared.yard.Section.{Section}
 use Rattle.messages.specs.declared.message.Act.{Act}
 use Rattle.messages.specs.declared.message.Act.TheVariants as act
 use Rattle.messages.specs.declared.message.Call.{Call}
+use Rattle.messages.specs.declared.message.Sign.{Sign}
 use Rattle.messages.specs.declared.message.Refusal.TheVariants as refusal
 use Rattle.engine_state.specs.declared.places.Places.{Places}
 use Rattle.engine_state.specs.declared.state.Event.{Event}
@@ -15,7 +17,7 @@ use Rattle.engine_state.specs.Places.{fits, same_section, bit, marked, word_of, 
 use Rattle.engine_state.specs.State.{wanted, got_by, got_wanted, freed_by}
 use Rattle.home.specs.declared.home.Home.{Home}
 use Rattle.home.specs.Home.{is_ours, at}
-use Rattle.home.specs.Queries.{holds_at, engine, or_else, lowest_below, holder_of, note_at}
+use Rattle.home.specs.Queries.{holds_at, engine, lowest, holder_of, note_at}
 use Rattle.home.specs.Inputs.{has_section, with_notes, is_older, noted_for}
 use Rattle.home_laws.specs.Held.{FreedIsNotHeld, ToldOfWhatIsHeld}
 use Rattle.home_laws.proofs.Words.{cleared}
@@ -62,36 +64,33 @@ freed_is_not_held x c wide is =
     subst (λ (a : Act). has_of (freed_by (got_wanted x.stored.kept c (wanted x.stored.mode)) c.section a) c.section ≡ false) (sym is)
     (without_has (got_wanted x.stored.kept c (wanted x.stored.mode)) c.section (wanted_wide x.stored.kept c (wanted x.stored.mode) wide))
 
-lowest_step :
-    (f : Engine → Bool) (n : ℕ) (e : Engine) (o : Option Engine) → (o ≡ Some e → f e ≡ true) → or_else o (cond (f (engine n)) (Some (engine n)) None) ≡ Some e → f e ≡ true
-lowest_step f n e (Some x) low is = low is
-lowest_step f n e None low is = at_test (f (engine n)) refl is
+found_passes : (f : Engine → Bool) (e : Engine) (xs : List Engine) → find f xs ≡ Some e → f e ≡ true
+found_passes f e [] is = let z : ◌≡◌ {A = ℕ} 0 1 = cc in absurd (omega arith)
+found_passes f e (x ∷ xs) is = at_test (f x) refl (found_passes f e xs) is
   where
-    at_test : (t : Bool) → f (engine n) ≡ t → cond t (Some (engine n)) None ≡ Some e → f e ≡ true
-    at_test true holds q = let same : engine n ≡ e = cc in subst (λ (x : Engine). f x ≡ true) same holds
-    at_test false holds q = let z : ◌≡◌ {A = ℕ} 0 1 = cc in absurd (omega arith)
+    at_test : (t : Bool) → f x ≡ t → (find f xs ≡ Some e → f e ≡ true) → cond t (Some x) (find f xs) ≡ Some e → f e ≡ true
+    at_test true holds further q = let same : x ≡ e = cc in subst (λ (y : Engine). f y ≡ true) same holds
+    at_test false holds further q = further q
 
-lowest_passes : (f : Engine → Bool) (n : ℕ) (e : Engine) → lowest_below f n ≡ Some e → f e ≡ true
-unfolding lowest_below
-lowest_passes f zero e is = let z : ◌≡◌ {A = ℕ} 0 1 = cc in absurd (omega arith)
-lowest_passes f (suc n) e is = lowest_step f n e (lowest_below f n) (lowest_passes f n e) is
+lowest_passes : (f : Engine → Bool) (e : Engine) → lowest f ≡ Some e → f e ≡ true
+unfolding lowest
+lowest_passes f e is = found_passes f e (map engine (range_with_len 0 64)) is
 
--- what is told is of by, which holds the section
+-- what is told is of one that holds the section, with the sign that it shows
 abbrev Rightly : Home → Section → Home × Event → Type 0
-Rightly h s p = (to : Engine) (n : ℕ) (by : Engine) (sign : ℕ) → p.1 ≡ event.Noted (record { to = to; count = n; by = by; sign = sign }) → (holds_at h by s ≡ true) × (sign ≡ (at h by).signs.shown)
+Rightly h s p = (told : Sign) → p.1 ≡ event.Noted told → (holds_at h told.by s ≡ true) × (told.sign ≡ (at h told.by).signs.shown)
 
 rightly_either : (h : Home) (s : Section) (t : Bool) (p q : Home × Event) → Rightly h s p → Rightly h s q → Rightly h s (cond t p q)
 rightly_either h s true p q a b = a
 rightly_either h s false p q a b = b
 
 silent : (h : Home) (s : Section) (g : Home) → Rightly h s (g, event.PassedOver)
-silent h s g to n by sign q = let z : ◌≡◌ {A = ℕ} 0 1 = cc in absurd (omega arith)
+silent h s g told q = let z : ◌≡◌ {A = ℕ} 0 1 = cc in absurd (omega arith)
 
-told : (h : Home) (s : Section) (g : Home) (e : Engine) (count : ℕ) (by : Engine) → holds_at h by s ≡ true → Rightly h s (g, event.Noted (record { to = e; count = count; by = by; sign = (at h by).signs.shown }))
-told h s g e count by holds to n by' sign q =
-    let same : by ≡ by' = cc in
-    let shown : (at h by).signs.shown ≡ sign = cc in
-    (subst (λ (x : Engine). holds_at h x s ≡ true) same holds, sym shown ∙ ap (λ (x : Engine). (at h x).signs.shown) same)
+telling : (h : Home) (s : Section) (g : Home) (e : Engine) (count : ℕ) (by : Engine) → holds_at h by s ≡ true → Rightly h s (g, event.Noted (record { to = e; count = count; by = by; sign = (at h by).signs.shown }))
+telling h s g e count by holds told q =
+    let same : ◌≡◌ {A = Sign} (record { to = e; count = count; by = by; sign = (at h by).signs.shown }) told = cc in
+    subst (λ (x : Sign). (holds_at h x.by s ≡ true) × (x.sign ≡ (at h x.by).signs.shown)) same (holds, refl)
 
 noted_rightly : (h : Home) (e : Engine) (s : Section) (count : ℕ) (o : Option Engine) → holder_of h s ≡ o → Rightly h s (noted_for h e s count o)
 noted_rightly h e s count None is = silent h s h
@@ -100,10 +99,10 @@ noted_rightly h e s count (Some by) is =
     (cond (is_ours h by) (with_notes h (set h.notes e.0 (Some (record { section = s; count = count }))), event.Noted (record { to = e; count = count; by = by; sign = (at h by).signs.shown })) (h, event.PassedOver))
     (silent h s h)
     (rightly_either h s (is_ours h by) (with_notes h (set h.notes e.0 (Some (record { section = s; count = count }))), event.Noted (record { to = e; count = count; by = by; sign = (at h by).signs.shown })) (h, event.PassedOver)
-    (told h s (with_notes h (set h.notes e.0 (Some (record { section = s; count = count })))) e count by (lowest_passes (λ (x : Engine). holds_at h x s) 64 by is))
+    (telling h s (with_notes h (set h.notes e.0 (Some (record { section = s; count = count })))) e count by (lowest_passes (λ (x : Engine). holds_at h x s) by is))
     (silent h s h))
 
 pub told_of_what_is_held : ToldOfWhatIsHeld
 told_of_what_is_held h e s count =
     rightly_either h s (leb h.yard.engines e.0 || not (has_section h s)) (h, event.Refused refusal.Malformed) (noted_for h e s count (holder_of h s))
-    (λ to n by sign q. let z : ◌≡◌ {A = ℕ} 0 1 = cc in absurd (omega arith)) (noted_rightly h e s count (holder_of h s) refl)
+    (λ told q. let z : ◌≡◌ {A = ℕ} 0 1 = cc in absurd (omega arith)) (noted_rightly h e s count (holder_of h s) refl)

@@ -4,6 +4,7 @@ use Rattle.messages.specs.declared.yard.Engine.{Engine}
 use Rattle.messages.specs.declared.yard.Section.{Section}
 use Rattle.messages.specs.declared.message.Act.TheVariants as act
 use Rattle.messages.specs.declared.message.Call.{Call}
+use Rattle.messages.specs.declared.message.Sign.{Sign}
 use Rattle.engine_state.specs.declared.state.Event.TheVariants as event
 use Rattle.engine_state.specs.declared.state.State.{State}
 use Rattle.engine_state.specs.State.{made}
@@ -20,5 +21,5 @@ FreedIsNotHeld = (x : State) (c : Call) → length x.stored.kept.words ≡ 16 �
 -- a waiter is told only of one that holds what it waits for, and the sign that this one shows
 abbrev pub ToldOfWhatIsHeld : Type 0
 ToldOfWhatIsHeld =
-    (h : Home) (e : Engine) (s : Section) (count : ℕ) (to : Engine) (n : ℕ) (by : Engine) (sign : ℕ) → (waits_of h e s count).1 ≡ event.Noted (record { to = to; count = n; by = by; sign = sign }) →
-    (holds_at h by s ≡ true) × (sign ≡ (at h by).signs.shown)
+    (h : Home) (e : Engine) (s : Section) (count : ℕ) (told : Sign) → (waits_of h e s count).1 ≡ event.Noted told →
+    (holds_at h told.by s ≡ true) × (told.sign ≡ (at h told.by).signs.shown)

@@ -8,57 +8,41 @@ ghost use Rattle.home_laws.specs.Puts.{PutOne};
 ghost use Rattle.home_laws.specs.Steps.{TurnedAwayChangesNothing, StoredByRecord};
 
 // After every answer, change and sign the event tells what became of the engine.
-pub fn event_tells() -> u8
+pub fn event_tells()
     ensures { EventTells }
-{
-    0
-}
+{}
 
 // What is refused or passed over leaves the home as it was.
-pub fn turned_away_changes_nothing() -> u8
+pub fn turned_away_changes_nothing()
     ensures { TurnedAwayChangesNothing }
-{
-    0
-}
+{}
 
 // What is stored after an input is what the event's record makes of what was stored.
-pub fn stored_by_record() -> u8
+pub fn stored_by_record()
     ensures { StoredByRecord }
-{
-    0
-}
+{}
 
 // The own sign is never above the sign shown.
-pub fn own_below_shown() -> u8
+pub fn own_below_shown()
     ensures { OrderedKept }
-{
-    0
-}
+{}
 
 // The same answer, change or sign again changes nothing.
-pub fn same_again() -> u8
+pub fn same_again()
     ensures { SameAgain }
-{
-    0
-}
+{}
 
 // A section that is being freed is held no more.
-pub fn freed_is_not_held() -> u8
+pub fn freed_is_not_held()
     ensures { FreedIsNotHeld }
-{
-    0
-}
+{}
 
 // A waiter is told only of an engine that holds what it waits for.
-pub fn told_of_what_is_held() -> u8
+pub fn told_of_what_is_held()
     ensures { ToldOfWhatIsHeld }
-{
-    0
-}
+{}
 
 // After a change of one engine it reads as put, and every other as it was.
-pub fn put_one() -> u8
+pub fn put_one()
     ensures { PutOne }
-{
-    0
-}
+{}

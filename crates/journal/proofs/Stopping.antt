@@ -1,6 +1,6 @@
 -- Bytes cut anywhere: whole records, and then less than one.
-use Rattle.std.proofs.Common.{◌≡◌, ℕ, zero, suc, ◌+◌, ◌-◌, ◌≤◌, min, List, [], ◌∷◌, ◌++◌, length, take, drop, Ok, Err, vec_items, Result, Vec, sym, ap, ◌∙◌, subst, inl, inr, append_assoc, append-nil, arith, length-append, length-drop, length-take}
-use Rattle.std.proofs.lemmas.List.{take_all, take-append-drop, take-append-le, take_at, take-take}
+use Rattle.std.proofs.Common.{◌≡◌, ℕ, zero, suc, ◌+◌, ◌-◌, ◌≤◌, min, List, [], ◌∷◌, ◌++◌, length, take, drop, Ok, Err, vec_items, Result, Vec, sym, ap, ◌∙◌, subst, inl, inr, append_assoc, append-nil, arith, length-append, length-drop}
+use Rattle.std.proofs.lemmas.List.{take_all, take-append-drop, take-append-le, take_at}
 use Rattle.std.proofs.lemmas.Bool.{cases_lt}
 use Rattle.std.specs.declared.alloc.Global.{Global}
 use Rattle.messages.specs.declared.message.Record.{Record}
@@ -13,15 +13,6 @@ use Rattle.journal.specs.declared.opening.OpenFault.TheVariants as fault
 use Rattle.journal.specs.Opening.{AppendedReadsBack, Found, Gives, Leaves, OpenedTwice, Reads, Restarted, StillThere}
 use Rattle.journal.specs.Storage.{Remains}
 use Rattle.journal.proofs.Storing.{written_both}
-
--- a first part of a first part
-pub remains_front : (holds : List ℕ → ℕ → Type 0) (xs : List ℕ) (w m : ℕ) → m ≤ w → Remains holds (take w xs) m → Remains holds xs m
-remains_front holds xs w m le r =
-    let P : List ℕ → Type 0 = λ l. holds l m in
-    elim (cases_lt r.0 w) [
-      | inl lt ↦ (r.0, r.1, subst P (take-take r.0 w xs (omega arith)) r.2)
-      | inr ge ↦ (w, le, subst P (take_all r.0 (take w xs) (let l = length-take w xs in omega arith)) r.2)
-    ]
 
 -- past a front that is kept whole
 pub take_past : (a b : List ℕ) (k : ℕ) → take (length a + k) (a ++ b) ≡ a ++ take k b
@@ -109,10 +100,10 @@ whole_left y xs w qs u h is =
     let b = ap length h.1 in
     (ap (take w) (sym h.1) ∙ take_at (written qs) u w (sym is), omega arith)
 
--- what opening answers and leaves, where reading failed or found damage
-pub not_read : (y : Yard) (xs : List ℕ) (n : ℕ) (after : List ℕ → ℕ → Type 0) (f : OpenFault) → Found y xs (Err f) → after xs n → Reads y xs (Err f) × Leaves y xs n after (Err f)
-not_read y xs n after (fault.Damaged at) found h = (found, h)
-not_read y xs n after (fault.Fault f) found h = (tt, untouched y xs n after h)
+-- what opening leaves, where reading failed or found damage
+pub not_read : (y : Yard) (xs : List ℕ) (n : ℕ) (after : List ℕ → ℕ → Type 0) (f : OpenFault) → Found y xs (Err f) → after xs n → Leaves y xs n after (Err f)
+not_read y xs n after (fault.Damaged at) found h = h
+not_read y xs n after (fault.Fault f) found h = untouched y xs n after h
 
 by_answer : (rs others : List Record) (j : ℕ) (y : Yard) (xs : List ℕ) (n s : ℕ) (held : List ℕ) (r : Result (Vec Record Global) OpenFault) → Gives (rs ++ take j others) r
     → Leaves y xs n (λ zs m. (held ≡ zs) × (s ≡ m)) r → Restarted rs others held r

@@ -1,6 +1,6 @@
--- Records written one after another are the bytes of the list; no records are no bytes.
+-- Records written one after another are the bytes of the list.
 use Rattle.std.proofs.Common.{◌≡◌, ℕ, ◌+◌, ◌<◌, ◌≤◌, List, [], ◌∷◌, ◌++◌, length, get_or, take, sym, refl, ap, ◌∙◌, subst, append_assoc, append-nil}
-use Rattle.std.proofs.lemmas.List.{nil_from_length, take_at, take_more}
+use Rattle.std.proofs.lemmas.List.{take_at, take_more}
 use Rattle.messages.specs.declared.message.Record.{Record}
 use Rattle.messages.specs.Journal.{written}
 use Rattle.messages.specs.Table.{record_bytes}
@@ -22,11 +22,3 @@ encode_more rs i d bs more new l inv m e =
 pub unwritten : (holds : List ℕ → ℕ → Type 0) (xs more : List ℕ) (n : ℕ) → n ≤ length xs → holds xs n → (k : ℕ) × (n ≤ k) × holds (take k (xs ++ more)) n
 unwritten holds xs more n within h =
     let P : List ℕ → Type 0 = λ l. holds l n in (length xs, within, subst P (sym (take_at xs more (length xs) refl)) h)
-
--- no records, no bytes
-pub no_bytes : (rs : List Record) → length rs ≡ 0 → written rs ≡ []
-no_bytes rs none = ap written (nil_from_length rs none)
-
-pub nothing_more : (holds : List ℕ → ℕ → Type 0) (xs more : List ℕ) → more ≡ [] → holds xs (length xs) → holds (xs ++ more) (length (xs ++ more))
-nothing_more holds xs more none h =
-    let P : List ℕ → Type 0 = λ l. holds l (length l) in subst P (sym (ap (λ (l : List ℕ). xs ++ l) none ∙ append-nil xs)) h

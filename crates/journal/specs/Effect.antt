@@ -20,6 +20,14 @@ outputs_of e = vec_items e.outputs
 abbrev pub said_of : Said → List Output
 said_of s = vec_items s.outputs
 
+-- the message that an output sends, and the box that it is for
+abbrev pub sending_of : Output → Option (BoxNumber × Message)
+sending_of (output.Send to m) = Some (to, m)
+sending_of (output.Had e s) = None
+sending_of (output.GiveBack e) = None
+sending_of (output.GivingBack e) = None
+sending_of (output.Refused r) = None
+
 -- the message that an output sends to a box
 abbrev pub message_to : BoxNumber → Output → Option Message
 message_to own (output.Send to m) = cond (to.0 == own.0) (Some m) None

@@ -3,11 +3,18 @@ use Rattle.std.specs.Prelude.{◌≡◌, ℕ, ◌≤◌, List, ◌++◌, length,
 use Rattle.std.specs.declared.alloc.Global.{Global}
 use Rattle.messages.specs.declared.message.Record.{Record}
 use Rattle.messages.specs.declared.records.Replay.{Replay}
+use Rattle.messages.specs.declared.records.Unread.{Unread}
 use Rattle.messages.specs.declared.records.Unread.TheVariants as unread
 use Rattle.messages.specs.declared.yard.Yard.{Yard}
 use Rattle.messages.specs.Journal.{AllIn, Holds, ReadIs, written}
+use Rattle.journal.specs.declared.fault.Fault.TheVariants as file
 use Rattle.journal.specs.declared.opening.OpenFault.{OpenFault}
 use Rattle.journal.specs.declared.opening.OpenFault.TheVariants as fault
+
+-- why a file can't be opened, where its bytes couldn't be read
+abbrev pub fault_of : Unread → OpenFault
+fault_of (unread.Damaged at) = fault.Damaged at
+fault_of unread.NoMemory = fault.Fault file.Memory
 
 -- what reading a file with bytes xs answers: its whole records and how far they reach, or the byte at which it is damaged
 abbrev pub Found : Yard → List ℕ → Result Replay OpenFault → Type 0

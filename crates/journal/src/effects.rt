@@ -1,6 +1,7 @@
 // What came of inputs: records to be stored, and what may be said once they are.
 ghost use Rattle.std.specs.Prelude.{◌≡◌, ℕ, List, [], ◌∷◌, ◌++◌, length, is_ok, IfOk, if◌then◌else◌, MatchResult, OnOk};
-ghost use Rattle.journal.specs.Effect.{message_to, outputs_of, own_at, records_of, said_of};
+ghost use Rattle.journal.specs.Effect.{outputs_of, own_at, records_of, said_of};
+ghost use Rattle.journal.specs.Gather.{Gathers};
 ghost use Rattle.messages.specs.Journal.{written};
 ghost use Rattle.journal.specs.Storage.{Remains};
 
@@ -18,20 +19,6 @@ pub struct Effects {
     outputs: Vec<Output>,
 }
 
-// The message that an output sends to a box.
-fn message_to(own: BoxNumber, output: Output) -> Option<Message>
-    ensures { result ≡ message_to own output }
-{
-    match output {
-        Output::Send { to, message } if to.0 == own.0 => Some(message),
-        Output::Send { .. }
-        | Output::Had { .. }
-        | Output::GiveBack { .. }
-        | Output::GivingBack { .. }
-        | Output::Refused(_) => None,
-    }
-}
-
 impl Effects {
     pub fn new(heap: Global) -> Effects
         ensures records { records_of result ≡ [] }
@@ -41,6 +28,25 @@ impl Effects {
             heap,
             records: Vec::new(heap),
             outputs: Vec::new(heap),
+        }
+    }
+
+    // What came of a turn of some state; after a fault nothing of it is said. The state is lent to the turn, and not captured by it: what a call leaves in a capture isn't known after it.
+    pub fn gather<S, F: FnOnce(&mut S, &mut Effects) -> Result<(), Fault>>(
+        heap: Global,
+        state: &mut S,
+        turn: F,
+    ) -> Result<Effects, Fault>
+        requires { F.IsAlwaysCallable turn }
+        ensures { Gathers F.FnOnce turn state.old state.new result }
+    {
+        let mut effects = Effects::new(heap);
+        match turn(state, &mut effects) {
+            Ok(()) => Ok(effects),
+            Err(fault) => {
+                effects.abandon();
+                Err(fault)
+            }
         }
     }
 
@@ -71,10 +77,7 @@ impl Effects {
     pub fn to_itself(&self, own: BoxNumber, at: usize) -> Option<Message>
         ensures { result ≡ own_at own at (outputs_of self.now) }
     {
-        if at >= self.outputs.len() {
-            return None;
-        }
-        message_to(own, self.outputs[at])
+        self.outputs.get(at)?.sent_to(own)
     }
 
     // Stores the records, and hands out what may be said only when they are synced.
@@ -88,10 +91,8 @@ impl Effects {
             records,
             outputs,
         } = self;
-        match store(file, records.as_slice(), heap) {
-            Ok(()) => Ok(Said { outputs }),
-            Err(fault) => Err(fault),
-        }
+        store(file, records.as_slice(), heap)?;
+        Ok(Said { outputs })
     }
 
     // For a program that ends on a fault: nothing is said.
@@ -115,5 +116,34 @@ impl Said {
         ensures { result.now ≡ said_of self.now }
     {
         self.outputs.as_slice()
+    }
+}
+
+#[cfg(test)]
+mod tests {
+    use super::*;
+    use messages::Engine;
+
+    // A turn that says two things of its state, and changes it.
+    fn speak(count: &mut u8, effects: &mut Effects) -> Result<(), Fault> {
+        effects.say(Output::GiveBack {
+            engine: Engine(*count),
+        })?;
+        *count = 4;
+        effects.say(Output::GivingBack {
+            engine: Engine(*count),
+        })
+    }
+
+    #[test]
+    fn a_turn_is_gathered(rt: HostRuntime) {
+        let mut count = 3;
+        let gathered = Effects::gather(rt.alloc(), &mut count, speak);
+        assert!(rt; gathered.is_ok(), "there is memory for two outputs");
+        if let Ok(effects) = gathered {
+            assert_eq!(rt; effects.said_so_far(), 2);
+            effects.abandon();
+        }
+        assert_eq!(rt; count, 4);
     }
 }

@@ -1,13 +1,15 @@
 // A file opened: its whole records, or the byte at which it is damaged.
 ghost use Rattle.std.specs.Prelude.{◌≡◌, ℕ, ◌≤◌, min, List, length as size, take, IfOk, MatchResult, OnOk};
-ghost use Rattle.journal.specs.Opening.{Found, Leaves, Reads};
+ghost use Rattle.journal.specs.declared.fault.Fault.TheVariants as file_fault;
+ghost use Rattle.journal.specs.declared.opening.OpenFault.TheVariants as fault;
+ghost use Rattle.journal.specs.Opening.{Found, Leaves, Reads, fault_of};
 ghost use Rattle.journal.specs.Storage.{Remains};
 ghost use Rattle.messages.specs.Journal.{written};
 
 use crate::fault::Fault;
 use crate::file::File;
 use messages::{Record, Replay, Unread, Yard, read_records};
-use std::alloc::Global;
+use std::alloc::{AllocError, AllocFailed, Global};
 
 #[derive(Clone, Copy, PartialEq, Eq, Debug)]
 pub enum OpenFault {
@@ -16,20 +18,48 @@ pub enum OpenFault {
     Damaged(usize),
 }
 
+impl From<Fault> for OpenFault {
+    ghost from_gives = { λ f e. e ≡ fault.Fault f };
+
+    fn from(fault: Fault) -> OpenFault {
+        OpenFault::Fault(fault)
+    }
+}
+
+impl From<AllocError> for OpenFault {
+    ghost from_gives = { λ _ e. e ≡ fault.Fault file_fault.Memory };
+
+    fn from(error: AllocError) -> OpenFault {
+        OpenFault::from(Fault::from(error))
+    }
+}
+
+impl<T: Drop> From<AllocFailed<T>> for OpenFault {
+    ghost from_gives = { λ _ e. e ≡ fault.Fault file_fault.Memory };
+
+    fn from(refused: AllocFailed<T>) -> OpenFault {
+        OpenFault::from(Fault::from(refused))
+    }
+}
+
+impl From<Unread> for OpenFault {
+    ghost from_gives = { λ u e. e ≡ fault_of u };
+
+    fn from(unread: Unread) -> OpenFault {
+        match unread {
+            Unread::Damaged { at } => OpenFault::Damaged(at),
+            Unread::NoMemory => OpenFault::Fault(Fault::Memory),
+        }
+    }
+}
+
 // What the file has; it isn't changed.
 pub fn read_back<F: File>(file: &mut F, yard: Yard, heap: Global) -> Result<Replay, OpenFault>
     ensures found { (xs : List ℕ) (n : ℕ) → F.File.holds file.old xs n → F.File.holds file.new xs n × Found yard xs result }
     ensures whole { IfOk result (λ p. p.length ≡ size (written p.records.items)) }
 {
-    let bytes = match file.read_all(heap) {
-        Ok(bytes) => bytes,
-        Err(fault) => return Err(OpenFault::Fault(fault)),
-    };
-    match read_records(heap, yard, bytes.as_slice()) {
-        Ok(replay) => Ok(replay),
-        Err(Unread::Damaged { at }) => Err(OpenFault::Damaged(at)),
-        Err(Unread::NoMemory) => Err(OpenFault::Fault(Fault::Memory)),
-    }
+    let bytes = file.read_all(heap)?;
+    Ok(read_records(heap, yard, bytes.as_slice())?)
 }
 
 // Cuts the file back to its first `whole` bytes, and syncs them: what they say may be acted on.
@@ -37,10 +67,8 @@ pub fn cut_back<F: File>(file: &mut F, whole: usize) -> Result<(), Fault>
     ensures held { (xs : List ℕ) (n : ℕ) → F.File.holds file.old xs n → whole ≤ size xs → MatchResult result (λ _. F.File.holds file.new (take whole xs) (size (take whole xs))) (λ _. Remains (F.File.holds file.new) xs (min n whole)) }
     ensures settled { OnOk result (F.File.settled file.new) }
 {
-    match file.cut(whole) {
-        Ok(()) => file.sync(),
-        Err(fault) => Err(fault),
-    }
+    file.cut(whole)?;
+    file.sync()
 }
 
 // The whole records of the file. One that a stop cut short is cut away, and the others are synced before anything rests on them.
@@ -53,8 +81,6 @@ pub fn open<F: File>(file: &mut F, yard: Yard, heap: Global) -> Result<Vec<Recor
     let Ok(Replay { records, length }) = answer else {
         return Err(answer.unwrap_err());
     };
-    match cut_back(file, length) {
-        Ok(()) => Ok(records),
-        Err(fault) => Err(OpenFault::Fault(fault)),
-    }
+    cut_back(file, length)?;
+    Ok(records)
 }

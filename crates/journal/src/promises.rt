@@ -1,14 +1,10 @@
 // What holds of every file, said once.
 ghost use Rattle.journal.specs.Opening.{AppendedReadsBack, OpenedTwice};
 
-pub fn opened_twice() -> u8
+pub fn opened_twice()
     ensures { OpenedTwice }
-{
-    0
-}
+{}
 
-pub fn appended_reads_back() -> u8
+pub fn appended_reads_back()
     ensures { AppendedReadsBack }
-{
-    0
-}
+{}

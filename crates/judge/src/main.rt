@@ -2,33 +2,19 @@
 #![tactic(auto)]
 
 use ring_search::listing::Listing;
-use ring_search::{Ring, rings};
-use std::alloc::{AllocError, Global};
-
-// `ring 0 1 2: 2 finds`
-fn line(heap: Global, ring: &Ring) -> Result<String, AllocError> {
-    let mut text = String::from_str(heap, "ring")?;
-    for e in ring.engines.iter() {
-        text.push_str(format!(in heap; " {e}")?.as_str())?;
-    }
-    let finder = ring.finder;
-    text.push_str(format!(in heap; ": {finder} finds")?.as_str())?;
-    Ok(text)
-}
+use ring_search::rings;
 
 fn main(rt: HostRuntime) -> anyhow::Result<()> {
     let heap = rt.alloc();
     let mut list = Listing::new();
-    let mut number = 0u64;
-    for text in rt.lines(heap) {
-        number = number.saturating_add(1);
+    for (number, text) in (1u64..).zip(rt.lines(heap)) {
         if let Err(bad) = list.read(number, text?.as_str()) {
-            println!(rt; "refused line {bad}")?;
+            println!(rt; "{bad}")?;
             return Ok(());
         }
     }
-    for ring in rings(heap, &list.engines())?.iter() {
-        rt.println(line(heap, ring)?)?;
+    for ring in &rings(heap, &list.engines())? {
+        println!(rt; "{ring}")?;
     }
     Ok(())
 }
@@ -40,14 +26,10 @@ mod tests {
     // The number of the first bad line; 0 where there is none.
     fn refused(lines: &[&str]) -> u64 {
         let mut list = Listing::new();
-        let mut number = 0u64;
-        for text in lines {
-            number = number.saturating_add(1);
-            if let Err(bad) = list.read(number, *text) {
-                return bad;
-            }
-        }
-        0
+        (1u64..)
+            .zip(lines)
+            .find_map(|(number, text)| list.read(number, *text).err())
+            .map_or(0, |bad| bad.0)
     }
 
     #[test]

@@ -20,4 +20,4 @@ pub use promises::{
 };
 pub use records::reading::{encode_record, first_record, read_records};
 pub use records::{First, Replay, Unread};
-pub use yard::{BoxNumber, Engine, Section, Yard};
+pub use yard::{BoxNumber, Engine, MOST_BOXES, MOST_ENGINES, PLACES, Section, Yard};

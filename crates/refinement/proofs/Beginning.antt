@@ -7,7 +7,7 @@ use Rattle.messages.specs.declared.yard.Section.{Section}
 use Rattle.messages.specs.declared.yard.Yard as sizes
 use Rattle.messages.specs.Range.{SectionIn}
 use Rattle.signs.specs.declared.Engine as signs
-use Rattle.signs.specs.declared.Refusal as signRefusal
+use Rattle.signs.specs.declared.Refusal as sign_refusal
 use Rattle.signs.specs.Signs.{next_own, out_of_range, has_room}
 use Rattle.signs.proofs.Lowest.{own_is_lowest}
 use Rattle.engine_state.specs.declared.state.Event.{Event}
@@ -133,5 +133,5 @@ module _ {y : sizes.Yard} {last : ℕ → LastCall} {x : State} {z : model.Yard}
       u : ℕ
       u = next_own x.signs.shown e y.engines
 
-      Turns : Result signs.Engine signRefusal.Refusal → Type 0
+      Turns : Result signs.Engine sign_refusal.Refusal → Type 0
       Turns r = OwnStep y last z e x (begun_with x (engine e) s m (engine j) r)

@@ -17,7 +17,7 @@ use Rattle.messages.specs.declared.message.Reply.TheVariants as reply
 use Rattle.messages.specs.Range.{HolderIn}
 use Rattle.signs.specs.declared.Engine as signs
 use Rattle.signs.specs.declared.Heard as spoken
-use Rattle.signs.specs.declared.Refusal as signRefusal
+use Rattle.signs.specs.declared.Refusal as sign_refusal
 use Rattle.signs.specs.Signs.{Wait}
 use Rattle.signs.specs.Signs.{is_for, waits_by, hear_of, find_of, listen_of}
 use Rattle.engine_state.specs.declared.state.Event.{Event}
@@ -239,7 +239,7 @@ waits_by_lem w j k n m e q =
 
 module _ {y : sizes.Yard} {last : ℕ → LastCall} {x : State} {z : model.Yard} {e : ℕ} (h : EngineAs y last x z e) (l : e < y.engines) (reach : Reach y.engines z) where
   module _ (count : ℕ) (teller : Engine) (sign : ℕ) (told : Told z e count teller.0 sign) (t : Section) (m j : ℕ) (pending : x.known ≡ known.Pending) (is : x.stored.mode ≡ mode.Waiting t m) (whom : x.signs.wait ≡ Some j) where
-    abbrev Turns : Result (signs.Engine × spoken.Heard) signRefusal.Refusal → Type 0
+    abbrev Turns : Result (signs.Engine × spoken.Heard) sign_refusal.Refusal → Type 0
     Turns r = OwnStep y last z e x (listened x (engine e) t r)
 
     -- what was told is for this wait, and by whom it waits for

@@ -347,7 +347,7 @@ module _ (y : sizes.Yard) (bs : Boxes) (z : model.Yard) (n : ℕ) (sized : Sized
           is_ours h teller ≡ true → holds_of (at h teller) s ≡ true
       held_by teller a b c d =
           sym (cond-true (is_ours h teller) (holds_of (at h teller) s) false d) ∙
-          (told_of_what_is_held h e s count e count teller (at h teller).signs.shown
+          (told_of_what_is_held h e s count (record { to = e; count = count; by = teller; sign = (at h teller).signs.shown })
           (ap (λ (t : Bool). (cond t (h, event.Refused refusal.Malformed) (noted_for h e s count (holder_of h s))).1) a ∙ ap (λ (o : Option Engine). (noted_for h e s count o).1) b ∙
           ap (λ (t : Bool). (cond t (h, event.PassedOver) (cond (is_ours h teller) (yes teller) (h, event.PassedOver))).1) c ∙ ap (λ (t : Bool). (cond t (yes teller) (h, event.PassedOver)).1) d)).0
 

@@ -1,12 +1,13 @@
 -- The rings that the search gives are all the rings there are, each once: a ring turned to its lowest engine is what the search from that engine gives.
 -- Assumes nothing.
-use Rattle.std.proofs.Common.{◌≡◌, ℕ, zero, suc, ◌<◌, ◌≤◌, ltb, ◌⊎◌, List, [], ◌∷◌, ◌++◌, length, Some, None, Option, sym, refl, ap, ◌∙◌, inl, inr, append-nil, arith}
+use Rattle.std.proofs.Common.{◌≡◌, ℕ, zero, suc, ◌<◌, ◌≤◌, eqb, ltb, ◌⊎◌, List, [], ◌∷◌, ◌++◌, length, Some, None, Option, sym, refl, ap, ◌∙◌, inl, inr, append-nil, arith}
 use mathlib.Core.List.{Memᴰ}
 use Rattle.std.proofs.lemmas.Bool.{cases_eq, cases_lt, cond_both, ltb-true}
 use Rattle.signs.specs.Signs.{Wait}
 use Rattle.signs.specs.declared.table.Engines.{Engines}
 use Rattle.signs.specs.Table.{engine_at}
-use Rattle.ring_search.specs.Search.{Judged, wait_of, own_of, chase, best_of, judged, ring_at, more, rings_below}
+use Rattle.ring_search.specs.Chase.{chase}
+use Rattle.ring_search.specs.Search.{Judged, wait_of, own_of, upward, best_of, judged, ring_at, more, rings_below}
 use Rattle.ring_search.specs.Exactly.{Apart, IsRing, first_of, InOrder, Exactly}
 use Rattle.ring_search.proofs.Lists.{mem_snoc, few, least}
 use Rattle.ring_search.proofs.Turned.{Alike, turn_to, unique, way_apart, way_waits}
@@ -97,7 +98,7 @@ module _ (w : ℕ → Wait) (own : ℕ → ℕ) where
   module _ (few-engines : (y u : ℕ) → w y ≡ Some u → y < 64) where
     -- a ring from its lowest engine on is what the search gives from there
     lowest-given : (x : ℕ) (bs : List ℕ) → IsRing w (x ∷ bs) → ((y : ℕ) → Memᴰ y bs → x < y) →
-        (x < 64) × (chase w x 64 x [] ≡ Some (x ∷ bs))
+        (x < 64) × (chase eqb (upward w x) x 64 x [] ≡ Some (x ∷ bs))
     lowest-given x bs h above =
         let below : (y : ℕ) → Memᴰ y (x ∷ bs) → y < 64 =
         λ y m. let u = way_waits w x x y bs h.0 m in few-engines y u.0 u.1

@@ -1,78 +1,62 @@
 -- The search from one engine gives its ring exactly where it is the lowest of one: sixty-four steps are enough, since a ring passes nobody twice.
 -- Assumes nothing.
-use Rattle.std.proofs.Common.{◌≡◌, ℕ, zero, suc, ◌-◌, ◌<◌, ◌≤◌, cond, eqb, ltb, ◌⊎◌, List, [], ◌∷◌, ◌++◌, length, Some, None, Option, sym, refl, ap, ◌∙◌, inl, inr, append_assoc, arith}
+use Rattle.std.proofs.Common.{◌≡◌, ℕ, zero, suc, ◌-◌, ◌<◌, ◌≤◌, eqb, ltb, ◌⊎◌, List, [], ◌∷◌, ◌++◌, length, Some, None, Option, refl, ap, ◌∙◌, inl, inr, append_assoc, arith}
 use mathlib.Core.List.{Memᴰ}
-use Rattle.std.proofs.lemmas.Bool.{cases_lt, cond_both, cond-true, cond-false, eq-eqb, ne_eqb, le-ltb, eqb-true, eqb-false, ltb-true, ltb-false}
+use Rattle.std.proofs.lemmas.Bool.{cases_lt, cond_both, cond-false, eq-eqb, ne_eqb, le-ltb, eqb-true, eqb-false, ltb-true, ltb-false}
 use Rattle.signs.specs.Signs.{Wait}
-use Rattle.ring_search.specs.declared.Next.{Next}
-use Rattle.ring_search.specs.declared.Next.TheVariants.{Out, Back, On}
-use Rattle.ring_search.specs.Search.{Judged, after_of, follow, chase, best_of, judged, ring_at}
+use Rattle.ring_search.specs.Chase.{follow, chase}
+use Rattle.ring_search.specs.Search.{Judged, after_of, upward, best_of, judged, ring_at}
 use Rattle.ring_search.specs.Exactly.{Links, HasHighest}
 use Rattle.ring_search.proofs.Chase.{chase_back, chase_next}
 
 -- where the search goes on, by the wait
-after_back : (v : Wait) (f : ℕ) → after_of v f ≡ Back → v ≡ Some f
-after_back None f = λ q. let z : ◌≡◌ {A = ℕ} 0 1 = cc in absurd (omega arith)
-after_back (Some y) f =
-    cond_both (eqb y f) Back (cond (ltb y f) Out (On y)) (λ (x : Next). x ≡ Back → Some y ≡ Some f)
-    (λ t q. ap Some (eqb-true y f t))
-    (λ t.
-    cond_both (ltb y f) Out (On y) (λ (x : Next). x ≡ Back → Some y ≡ Some f)
+after_some : (v : Wait) (f y : ℕ) → after_of v f ≡ Some y → (v ≡ Some y) × (f ≤ y)
+after_some None f y = λ q. let z : ◌≡◌ {A = ℕ} 0 1 = cc in absurd (omega arith)
+after_some (Some x) f y =
+    cond_both (ltb x f) None (Some x) (λ (n : Wait). n ≡ Some y → (Some x ≡ Some y) × (f ≤ y))
     (λ s q. let z : ◌≡◌ {A = ℕ} 0 1 = cc in absurd (omega arith))
-    (λ s q. let z : ◌≡◌ {A = ℕ} 0 1 = cc in absurd (omega arith)))
+    (λ s q. let same : x ≡ y = cc in (q, omega (arith, ltb-false x f s)))
 
-after_on : (v : Wait) (f y : ℕ) → after_of v f ≡ On y → (v ≡ Some y) × (f < y)
-after_on None f y = λ q. let z : ◌≡◌ {A = ℕ} 0 1 = cc in absurd (omega arith)
-after_on (Some x) f y =
-    cond_both (eqb x f) Back (cond (ltb x f) Out (On x)) (λ (n : Next). n ≡ On y → (Some x ≡ Some y) × (f < y))
-    (λ t q. let z : ◌≡◌ {A = ℕ} 0 1 = cc in absurd (omega arith))
-    (λ t.
-    cond_both (ltb x f) Out (On x) (λ (n : Next). n ≡ On y → (Some x ≡ Some y) × (f < y))
-    (λ s q. let z : ◌≡◌ {A = ℕ} 0 1 = cc in absurd (omega arith))
-    (λ s q.
-    let same : x ≡ y = cc in
-    (ap Some same, elim (cases_lt f y) [ inl k ↦ k | inr k ↦ absurd (eqb-false x f t (omega (arith, ltb-false x f s))) ])))
-
-back_after : (v : Wait) (f : ℕ) → v ≡ Some f → Back ≡ after_of v f
-back_after v f q = rw q (sym (cond-true (eqb f f) Back (cond (ltb f f) Out (On f)) (eq-eqb f f refl)))
-
-on_after : (v : Wait) (f y : ℕ) → v ≡ Some y → f < y → On y ≡ after_of v f
-on_after v f y q h =
-    rw q
-    (sym
-    (cond-false (eqb y f) Back (cond (ltb y f) Out (On y)) (ne_eqb y f (λ e. omega arith))
-    ∙ cond-false (ltb y f) Out (On y) (le-ltb y f (omega arith))))
+some_after : (v : Wait) (f y : ℕ) → v ≡ Some y → f ≤ y → after_of v f ≡ Some y
+some_after v f y q h = rw q (cond-false (ltb y f) None (Some y) (le-ltb y f h))
 
 -- what the search gives is a way back to the first, past higher engines only
-pub sound : (w : ℕ → Wait) (f n at : ℕ) (done r : List ℕ) → chase w f n at done ≡ Some r →
+pub sound : (w : ℕ → Wait) (f n at : ℕ) (done r : List ℕ) → chase eqb (upward w f) f n at done ≡ Some r →
     (xs : List ℕ) × (r ≡ done ++ at ∷ xs) × Links w at xs f × ((y : ℕ) → Memᴰ y xs → f < y)
 unfolding chase
 sound w f zero at done r q = let z : ◌≡◌ {A = ℕ} 0 1 = cc in absurd (omega arith)
 sound w f (suc n) at done r q = go (after_of (w at) f) refl q (λ next k. sound w f n next (done ++ at ∷ []) r k)
   where
-    go : (x : Next) → after_of (w at) f ≡ x → follow (done ++ at ∷ []) (λ next. chase w f n next (done ++ at ∷ [])) x ≡ Some r →
-        ((next : ℕ) → chase w f n next (done ++ at ∷ []) ≡ Some r →
+    go : (x : Wait) → after_of (w at) f ≡ x → follow eqb f (done ++ at ∷ []) (λ next. chase eqb (upward w f) f n next (done ++ at ∷ [])) x ≡ Some r →
+        ((next : ℕ) → chase eqb (upward w f) f n next (done ++ at ∷ []) ≡ Some r →
         (xs : List ℕ) × (r ≡ (done ++ at ∷ []) ++ next ∷ xs) × Links w next xs f × ((y : ℕ) → Memᴰ y xs → f < y)) →
         (xs : List ℕ) × (r ≡ done ++ at ∷ xs) × Links w at xs f × ((y : ℕ) → Memᴰ y xs → f < y)
-    go Out e k ih = let z : ◌≡◌ {A = ℕ} 0 1 = cc in absurd (omega arith)
-    go Back e k ih =
+    go None e k ih = let z : ◌≡◌ {A = ℕ} 0 1 = cc in absurd (omega arith)
+    go (Some next) e k ih =
+        let on = after_some (w at) f next e in
+        cond_both (eqb next f) (Some (done ++ at ∷ [])) (chase eqb (upward w f) f n next (done ++ at ∷ []))
+        (λ (z : Option (List ℕ)). z ≡ Some r → (xs : List ℕ) × (r ≡ done ++ at ∷ xs) × Links w at xs f × ((y : ℕ) → Memᴰ y xs → f < y))
+        (λ t p.
         let same : r ≡ done ++ at ∷ [] = cc in
-        ([], same, after_back (w at) f e, λ y m. absurd (mathlib.Core.List.Memᴰ.not-nil m))
-    go (On next) e k ih =
-        let s = ih next k in
-        let on = after_on (w at) f next e in (
+        ([], same, on.0 ∙ ap Some (eqb-true next f t), λ y m. absurd (mathlib.Core.List.Memᴰ.not-nil m)))
+        (λ t p.
+        let s = ih next p in
+        let over : f < next = elim (cases_lt f next) [ inl up ↦ up | inr down ↦ absurd (eqb-false next f t (omega (arith, on.1))) ] in (
           next ∷ s.0,
           s.1 ∙ append_assoc done (at ∷ []) (next ∷ s.0),
           (on.0, s.2),
-          λ y m. elim (mathlib.Core.List.Memᴰ.cases_cons m) [ inl p ↦ rw p on.1 | inr j ↦ s.3 y j ],
-        )
+          λ y m. elim (mathlib.Core.List.Memᴰ.cases_cons m) [ inl j ↦ rw j over | inr j ↦ s.3 y j ],
+        ))
+        k
 
 -- and a way back to the first, past higher engines only, is what it gives, if it may go so far
 pub complete : (w : ℕ → Wait) (f n at : ℕ) (done xs : List ℕ) → Links w at xs f → ((y : ℕ) → Memᴰ y xs → f < y) → length xs < n →
-    chase w f n at done ≡ Some (done ++ at ∷ xs)
-complete w f n at done [] h high room = chase_back w f n at done (omega arith) (back_after (w at) f h)
+    chase eqb (upward w f) f n at done ≡ Some (done ++ at ∷ xs)
+complete w f n at done [] h high room =
+    chase_back eqb (upward w f) f n at f done (omega arith) (some_after (w at) f f h (omega arith)) (eq-eqb f f refl)
 complete w f n at done (y ∷ ys) h high room =
-    chase_next w f n at y done (omega arith) (on_after (w at) f y h.0 (high y (mathlib.Core.List.Memᴰ.head refl)))
+    let over : f < y = high y (mathlib.Core.List.Memᴰ.head refl) in
+    chase_next eqb (upward w f) f n at y done (omega arith) (some_after (w at) f y h.0 (omega arith)) (ne_eqb y f (λ e. omega arith))
     ∙ complete w f (n - 1) y (done ++ at ∷ []) ys h.1 (λ u m. high u (mathlib.Core.List.Memᴰ.tail m)) (omega arith)
     ∙ ap Some (append_assoc done (at ∷ []) (y ∷ ys))
 
@@ -106,9 +90,9 @@ pub record RingFrom (w : ℕ → Wait) (own : ℕ → ℕ) (e : ℕ) (r : Judged
   pub high : HasHighest own r
 
 pub ring_from : (w : ℕ → Wait) (own : ℕ → ℕ) (e : ℕ) (r : Judged) → ring_at w own e ≡ Some r → RingFrom w own e r
-ring_from w own e r = go (chase w e 64 e []) refl
+ring_from w own e r = go (chase eqb (upward w e) e 64 e []) refl
   where
-    go : (o : Option (List ℕ)) → chase w e 64 e [] ≡ o → judged own e o ≡ Some r → RingFrom w own e r
+    go : (o : Option (List ℕ)) → chase eqb (upward w e) e 64 e [] ≡ o → judged own e o ≡ Some r → RingFrom w own e r
     go None p q = let z : ◌≡◌ {A = ℕ} 0 1 = cc in absurd (omega arith)
     go (Some xs) p q =
         let s = sound w e 64 e [] xs p in

@@ -1,3 +1,4 @@
+pub mod Chase
 pub mod Search
 pub mod Exactly
 pub mod Listing

@@ -1,12 +1,11 @@
 -- The search for rings of waits: along waits from each engine, until it comes back.
 -- Assumes nothing.
-use Rattle.std.specs.Prelude.{ℕ, zero, suc, cond, List, [], ◌∷◌, ◌++◌, Some, None, vec_items, Option, ◌==◌, nat_lt}
+use Rattle.std.specs.Prelude.{ℕ, zero, suc, cond, fold, List, [], ◌∷◌, ◌++◌, Some, None, vec_items, Option, nat_eq, nat_lt}
 use Rattle.signs.specs.Signs.{Wait}
 use Rattle.signs.specs.declared.table.Engines.{Engines}
 use Rattle.signs.specs.Table.{engine_at}
 use Rattle.ring_search.specs.declared.Ring.{Ring}
-use Rattle.ring_search.specs.declared.Next.{Next}
-use Rattle.ring_search.specs.declared.Next.TheVariants.{Out, Back, On}
+use Rattle.ring_search.specs.Chase.{chase}
 
 -- for whom an engine of the table waits
 abbrev pub wait_of : Engines → ℕ → Wait
@@ -16,21 +15,14 @@ wait_of t e = cond (nat_lt e 64) (engine_at t e).wait None
 abbrev pub own_of : Engines → ℕ → ℕ
 own_of t e = cond (nat_lt e 64) (engine_at t e).own 0
 
--- on from an engine by its wait: the waits end or come to one lower than the first, come back to the first, or go on
-abbrev pub after_of : Wait → ℕ → Next
-after_of None first = Out
-after_of (Some next) first = cond (next == first) Back (cond (nat_lt next first) Out (On next))
+-- on from an engine by its wait: the waits end, or come to one lower than the first, or go on
+abbrev pub after_of : Wait → ℕ → Wait
+after_of None first = None
+after_of (Some next) first = cond (nat_lt next first) None (Some next)
 
--- what a search finds that has passed some engines, by where it goes on
-abbrev pub follow : List ℕ → (ℕ → Option (List ℕ)) → Next → Option (List ℕ)
-follow done on Out = None
-follow done on Back = Some done
-follow done on (On next) = on next
-
--- along waits from one engine, at most so many, until they come back to the first: the engines passed
-unfoldable pub chase : (ℕ → Wait) → ℕ → ℕ → ℕ → List ℕ → Option (List ℕ)
-chase w first zero at done = None
-chase w first (suc left) at done = follow (done ++ at ∷ []) (λ next. chase w first left next (done ++ at ∷ [])) (after_of (w at) first)
+-- the waits as far as they lead to none lower than the first
+abbrev pub upward : (ℕ → Wait) → ℕ → ℕ → Wait
+upward w first at = after_of (w at) first
 
 -- of two engines the one with the higher own sign
 abbrev pub higher_of : (ℕ → ℕ) → ℕ → ℕ → ℕ
@@ -38,8 +30,7 @@ higher_of own best x = cond (nat_lt (own best) (own x)) x best
 
 -- the first engine with the highest own sign of the best so far and those that follow
 abbrev pub best_of : (ℕ → ℕ) → ℕ → List ℕ → ℕ
-best_of own best [] = best
-best_of own best (x ∷ xs) = best_of own (higher_of own best x) xs
+best_of own = fold (higher_of own)
 
 -- a ring, by its engines from the lowest on, and who finds it
 pub record Judged : Type 0 where
@@ -52,7 +43,7 @@ judged own first (Some xs) = Some (record { engines = xs; finder = best_of own f
 
 -- the ring of which an engine is the lowest
 abbrev pub ring_at : (ℕ → Wait) → (ℕ → ℕ) → ℕ → Option Judged
-ring_at w own first = judged own first (chase w first 64 first [])
+ring_at w own first = judged own first (chase nat_eq (upward w first) first 64 first [])
 
 abbrev pub more : List Judged → Option Judged → List Judged
 more rs None = rs

@@ -1,12 +1,15 @@
 // A list of who waits for whom, as written down by hand: a line for each engine, with its number, the engine it waits for or `-`, the sign shown and its own sign.
 ghost use Rattle.std.specs.Prelude.{◌≡◌, IfErr};
-ghost use Rattle.ring_search.specs.Listing.{empty_of, known_of, add_of};
+ghost use Rattle.ring_search.specs.Listing.{empty_of, add_of};
 
 use signs::Engine;
 use signs::table::{ENGINES, Engines};
+use std::num::ParseIntError;
+use std::str::FromStr;
+use thiserror::Error;
 
 // A line's words.
-#[derive(Clone, Copy)]
+#[derive(Clone, Copy, PartialEq, Eq, Debug)]
 pub struct Entry {
     pub engine: u8,
     pub wait: Option<u8>,
@@ -14,27 +17,50 @@ pub struct Entry {
     pub own: u64,
 }
 
-// Has an engine a line.
-#[derive(Clone, Copy)]
-pub enum Line {
-    Missing,
-    Read,
+// A text that is no line's words.
+#[derive(Clone, Copy, PartialEq, Eq, Debug, Error)]
+#[error("no line of a list")]
+pub struct BadEntry;
+
+// A line that is refused, by its number.
+#[derive(Clone, Copy, PartialEq, Eq, Debug, Error)]
+#[error("refused line {0}")]
+pub struct BadLine(pub u64);
+
+impl From<ParseIntError> for BadEntry {
+    fn from(_error: ParseIntError) -> BadEntry {
+        BadEntry
+    }
+}
+
+impl FromStr for Entry {
+    type Err = BadEntry;
+
+    // Four words, one blank between them.
+    fn from_str(text: &str) -> Result<Entry, BadEntry> {
+        let (engine, rest) = text.split_once(' ').ok_or(BadEntry)?;
+        let (wait, rest) = rest.split_once(' ').ok_or(BadEntry)?;
+        let (shown, own) = rest.split_once(' ').ok_or(BadEntry)?;
+        let wait = if wait == "-" {
+            None
+        } else {
+            Some(wait.parse()?)
+        };
+        Ok(Entry {
+            engine: engine.parse()?,
+            wait,
+            shown: shown.parse()?,
+            own: own.parse()?,
+        })
+    }
 }
 
 // The engines as listed; one that has no line waits for nobody.
 #[derive(Clone, Copy)]
 pub struct Listing {
     engines: Engines,
-    lines: [Line; 64],
-}
-
-fn known(wait: Option<u8>) -> bool
-    ensures { result ≡ known_of wait }
-{
-    match wait {
-        None => true,
-        Some(whom) => whom < ENGINES,
-    }
+    // Which engines have a line. It stands beside the table, since that has an engine at each place, with a line or without.
+    read: [bool; 64],
 }
 
 impl Listing {
@@ -44,7 +70,7 @@ impl Listing {
     {
         Listing {
             engines: Engines::new(),
-            lines: [Line::Missing; 64],
+            read: [false; 64],
         }
     }
 
@@ -55,16 +81,15 @@ impl Listing {
     }
 
     // One line more. Refused by its number, changing nothing, where an engine is not below 64 or has a line already.
-    pub fn add(&mut self, line: u64, entry: Entry) -> Result<(), u64>
+    pub fn add(&mut self, line: u64, entry: Entry) -> Result<(), BadLine>
         ensures { (self.new, result) ≡ add_of self.old line entry }
     {
-        if entry.engine >= ENGINES || !known(entry.wait) {
-            return Err(line);
+        if entry.engine >= ENGINES || entry.wait.is_some_and(|whom| whom >= ENGINES) {
+            return Err(BadLine(line));
         }
         let i = entry.engine as usize;
-        let before = self.lines[i];
-        if let Line::Read = before {
-            return Err(line);
+        if self.read[i] {
+            return Err(BadLine(line));
         }
         let engine = Engine {
             wait: entry.wait,
@@ -72,46 +97,18 @@ impl Listing {
             shown: entry.shown,
             own: entry.own,
         };
-        self.lines[i] = Line::Read;
-        let _ = self.engines.put(entry.engine, engine);
+        self.engines
+            .put(entry.engine, engine)
+            .map_err(|_| BadLine(line))?;
+        self.read[i] = true;
         Ok(())
     }
 
     // One line of text more. Refused by its number, changing nothing, where it is no such line.
-    pub fn read(&mut self, line: u64, text: &str) -> Result<(), u64>
-        ensures { IfErr result (λ n. (n ≡ line) × (self.new ≡ self.old)) }
+    pub fn read(&mut self, line: u64, text: &str) -> Result<(), BadLine>
+        ensures { IfErr result (λ bad. (bad.0 ≡ line) × (self.new ≡ self.old)) }
     {
-        let Some(entry) = read_entry(text) else {
-            return Err(line);
-        };
+        let entry = text.parse().map_err(|_| BadLine(line))?;
         self.add(line, entry)
     }
-}
-
-fn number(text: &str) -> Option<u64> {
-    text.parse::<u64>().ok()
-}
-
-fn engine_number(text: &str) -> Option<u8> {
-    text.parse::<u8>().ok()
-}
-
-fn read_wait(text: &str) -> Option<Option<u8>> {
-    if text == "-" {
-        return Some(None);
-    }
-    Some(Some(engine_number(text)?))
-}
-
-// The four words of a line, one blank between them.
-fn read_entry(text: &str) -> Option<Entry> {
-    let (first, rest) = text.split_once(' ')?;
-    let (second, rest) = rest.split_once(' ')?;
-    let (third, fourth) = rest.split_once(' ')?;
-    Some(Entry {
-        engine: engine_number(first)?,
-        wait: read_wait(second)?,
-        shown: number(third)?,
-        own: number(fourth)?,
-    })
 }

@@ -1,8 +1,10 @@
 -- Queues as lists: who is in one that somebody joined or left, and that a queue of engines is never longer than 64.
-use Rattle.std.proofs.Common.{◌≡◌, ℕ, zero, suc, ◌+◌, ◌<◌, ◌≤◌, true, false, not, ◌&&◌, ◌||◌, eqb, List, [], ◌∷◌, ◌++◌, Some, length, get_or, take, sym, refl, ap, ◌∙◌, arith}
+use Rattle.std.proofs.Common.{◌≡◌, ℕ, zero, suc, ◌+◌, ◌<◌, ◌≤◌, true, false, not, ◌&&◌, ◌||◌, eqb, List, [], ◌∷◌, ◌++◌, Some, length, take, sym, refl, ap, ◌∙◌, inl, inr, arith}
 use Rattle.std.proofs.lemmas.Bool.Decides.{nat_tests}
+use Rattle.std.proofs.lemmas.Bool.{and_from, eqb-true, or_cases}
+use Rattle.std.proofs.lemmas.List.{length-take-le}
 use Rattle.sections.specs.Table.{first_of, is_in, rest_of, without}
-use Rattle.sections.specs.Sound.{once}
+use Rattle.sections.specs.Sound.{WaitersKnown, once}
 
 pub is_in_push : (y e : ℕ) (xs : List ℕ) → is_in y (xs ++ e ∷ []) ≡ (eqb e y || is_in y xs)
 is_in_push y e [] = grind (arith, nat_tests)
@@ -41,20 +43,17 @@ at_most (suc n) xs o h =
     let below : (y : ℕ) → is_in y (without n xs) ≡ true → y < n = λ y p. let q = is_in_without y n xs in let r = h y in grind (arith, nat_tests) in
     omega (arith, length_without n xs o, at_most n (without n xs) (once_without n xs o) below)
 
--- the front of an array begins with the array's first
-module _ (n : ℕ) (xs : List ℕ) (some : n ≡ 0 → ⊥) (room : 0 < length xs) where
-  front : (m : ℕ) (ys : List ℕ) → (m ≡ 0 → ⊥) → 0 < length ys → take m ys ≡ get_or ys 0 0 ∷ rest_of (take m ys)
-  front zero ys h l = absurd (h refl)
-  front (suc m) [] h l = absurd (omega arith)
-  front (suc m) (y ∷ ys) h l = refl
+-- who isn't in an array's front of engines finds room behind it
+pub room : (e n : ℕ) (xs : List ℕ) → n ≤ length xs → e < 64 → is_in e (take n xs) ≡ false → once (take n xs) ≡ true → WaitersKnown (take n xs) → n < 64
+room e n xs fits below out o known =
+    let each : (y : ℕ) → is_in y (e ∷ take n xs) ≡ true → y < 64 = λ y w. elim (or_cases (eqb e y) (is_in y (take n xs)) w) [ inl h ↦ rw (eqb-true e y h) at below | inr h ↦ known y h ] in
+    omega (arith, at_most 64 (e ∷ take n xs) (and_from (not (is_in e (take n xs))) (once (take n xs)) (ap not out) o) each, length-take-le n xs fits)
 
-  pub front_first : Some (get_or xs 0 0) ≡ first_of (take n xs)
-  front_first = sym (ap first_of (front n xs some room))
+pub first_is_in : (x : ℕ) (xs : List ℕ) → first_of xs ≡ Some x → is_in x xs ≡ true
+first_is_in x [] h = cc
+first_is_in x (y ∷ ys) h = let same : y ≡ x = cc in grind (arith, nat_tests)
 
-  pub front_is_in : is_in (get_or xs 0 0) (take n xs) ≡ true
-  front_is_in = rw (front n xs some room) (grind (arith, nat_tests))
-
-  pub front_rest : once (take n xs) ≡ true → without (get_or xs 0 0) (take n xs) ≡ rest_of (take n xs)
-  front_rest o =
-      let f = front n xs some room in
-      ap (without (get_or xs 0 0)) f ∙ without_first (get_or xs 0 0) (rest_of (take n xs)) (sym (ap once f) ∙ o)
+-- without its first, the rest is left
+pub without_its_first : (x : ℕ) (xs : List ℕ) → first_of xs ≡ Some x → once xs ≡ true → without x xs ≡ rest_of xs
+without_its_first x [] h o = cc
+without_its_first x (y ∷ ys) h o = let same : y ≡ x = cc in ap (λ z. without z (y ∷ ys)) (sym same) ∙ without_first y ys o

@@ -1,110 +1,123 @@
--- What a box's rows owe: made from a sound table, kept where one row is replaced, and at hand as a sound table again.
-use Rattle.std.proofs.Common.{◌≡◌, ℕ, ◌^◌, ◌<◌, true, false, not, ◌&&◌, eqb, ltb, List, [], ◌∷◌, length, get_or, set, replicate, None, Ok, Err, Result, sym, refl, ap, ◌∙◌, subst, inl, inr, arith, length-set}
-use native.Mathlib.Nat.{zero-div}
-use Rattle.std.proofs.lemmas.List.{get_or-replicate, get_or_past, length-map, length-take-le}
-use Rattle.std.proofs.lemmas.Bool.{and_from, cases_lt, eqb-true, lt-ltb, or_cases}
+-- What a box's rows owe: each is in order, and they stay a sound table where a call changes one of them.
+use Rattle.std.proofs.Common.{◌≡◌, ℕ, zero, suc, ◌<◌, Bool, true, false, cond, ltb, ◌||◌, List, [], ◌∷◌, length, get_or, set, None, Ok, Err, Result, sym, refl, ap, ◌∙◌, subst, arith, length-set}
+use Rattle.std.specs.List.{list_any}
+use Rattle.std.proofs.lemmas.Bool.{and_parts, ltb-true}
+use Rattle.std.proofs.lemmas.List.{length-map, set-get_or}
 use Rattle.sections.specs.declared.Done.{Done}
 use Rattle.sections.specs.declared.Refusal.{Refusal}
 use Rattle.sections.specs.declared.Sections.{Sections}
 use Rattle.sections.specs.declared.row.Row.{Row}
-use Rattle.sections.specs.Table.{free_outcome, free_section, give_up_outcome, give_up_section, is_in, put, refusal_of, place_at, take_outcome, take_section, unless, waits}
-use Rattle.sections.specs.Sound.{HoldersKnown, InOrder, NobodyForFree, NobodyItsOwn, NobodyTwice, OneQueue, WaitersKnown, once}
-use Rattle.sections.specs.Layout.{AllFit, AllMatch, Fits, Matches, Placed, engines_of, holds, idle_row, section_of, table_of_rows}
+use Rattle.sections.specs.declared.Refusal.TheVariants.{OutOfRange}
+use Rattle.sections.specs.Table.{Outcome, Section, Table, answered, free_of, free_outcome, free_section, give_up_of, give_up_outcome, give_up_section, idle, is_in, known, place_at, put, refusal_of, settle, take_of, take_outcome, take_section, unless, waits}
+use Rattle.sections.specs.Sound.{InOrder, Keeps, OneQueue}
+use Rattle.sections.specs.Queues.{engines_of}
+use Rattle.sections.specs.Layout.{section_of, table_of_rows}
 use Rattle.sections.specs.Model.{table_of}
-use Rattle.sections.proofs.Sound.{Sound, not-true, quiet_sound}
-use Rattle.sections.proofs.Tables.{section_at, set_read, table_set, waits_nowhere}
-use Rattle.sections.proofs.Lists.{at_most}
+use Rattle.sections.specs.Promise.{FirstServed, InTurn}
+use Rattle.sections.proofs.Sound.{Sound, empty_sound, free_keeps, give_up_keeps, not-true, settled, take_keeps}
+use Rattle.sections.proofs.Tables.{not_refused, section_read, table_set, waits_nowhere}
+use Rattle.sections.proofs.Turns.{FairOutcome, first_served, free_fair, give_up_fair, in_turn, take_fair}
 
--- the ghost fields of the struct, in their order
-abbrev pub Owed : List Row → Type 0
-Owed rows =
-    record {
-      whole : length rows ≡ 64;
-      matched : AllMatch rows;
-      fitting : AllFit rows;
-      twice : NobodyTwice (table_of_rows rows);
-      others : NobodyItsOwn (table_of_rows rows);
-      had : NobodyForFree (table_of_rows rows);
-      apart : OneQueue (table_of_rows rows);
-      waiters : WaitersKnown (table_of_rows rows);
-      holders : HoldersKnown (table_of_rows rows);
-    }
-
-pub owed : (rows : List Row) → length rows ≡ 64 → AllMatch rows → AllFit rows → Sound (table_of_rows rows) → Owed rows
-owed rows long matched fitting sound =
-    record {
-      whole = long;
-      matched = matched;
-      fitting = fitting;
-      twice = λ p. (sound.order p).twice;
-      others = λ e p. (sound.order p).others e;
-      had = λ e p. (sound.order p).had e;
-      apart = sound.apart;
-      waiters = λ e p. (sound.order p).waiters e;
-      holders = λ e p. (sound.order p).holders e;
-    }
+-- the section that a row stands for is in order
+pub row_order : (r : Row) → InOrder (section_of r)
+row_order r = record { twice = r.queue.twice; others = r.others; had = r.had; waiters = r.queue.waiters; holders = r.holders }
 
 -- the table of a box is sound
 pub sound_of : (x : Sections) → Sound (table_of x)
-sound_of x =
-    record {
-      order = λ p. record { twice = x.twice p; others = λ e. x.others e p; had = λ e. x.had e p; waiters = λ e. x.waiters e p; holders = λ e. x.holders e p };
-      apart = x.apart;
-    }
+sound_of x = record { order = order x.rows; apart = x.apart }
+  where
+    order : (rows : List Row) (p : ℕ) → InOrder (place_at (table_of_rows rows) p)
+    order [] p = empty_sound.order 64
+    order (r ∷ rows) zero = row_order r
+    order (r ∷ rows) (suc p) = order rows p
 
 pub table_length : (x : Sections) → length (table_of x) ≡ 64
 table_length x = length-map x.rows section_of ∙ x.whole
 
--- one row is replaced
-pub owed_set : (x : Sections) (p : ℕ) (r : Row) → Matches r.queue → Fits r.queue → Sound (put (table_of x) p (section_of r)) → Owed (set x.rows p r)
-owed_set x p r m f sound =
-    owed (set x.rows p r) (length-set x.rows p r ∙ x.whole)
-    (λ q. at (λ y. Matches y.queue) m x.matched q)
-    (λ q. at (λ y. Fits y.queue) f x.fitting q)
-    (rw (table_set x.rows p r) sound)
-  where
-    at : (P : Row → Type 0) → P r → ((q : ℕ) → P (get_or x.rows q idle_row)) → (q : ℕ) → P (get_or (set x.rows p r) q idle_row)
-    at P here elsewhere q = elim (set_read idle_row x.rows p r q) [ inl h ↦ rw h.1 here | inr h ↦ rw h (elsewhere q) ]
+-- who waits is found in some row
+pub waits_rows : (e : ℕ) (rows : List Row) → list_any (λ (r : Row). is_in e (engines_of r.queue)) rows ≡ waits e (table_of_rows rows)
+waits_rows e [] = refl
+waits_rows e (r ∷ rows) = ap (λ b. is_in e (engines_of r.queue) || b) (waits_rows e rows)
 
-pub holds_none : (e : ℕ) → holds 0 e ≡ false
-holds_none e = rw (zero-div (2 ^ e)) refl
+-- the ghost fields of the struct, in their order
+abbrev pub Owed : List Row → Type 0
+Owed rows = record { whole : length rows ≡ 64; apart : OneQueue (table_of_rows rows) }
 
--- rows of sections that nobody has and nobody waits for
-pub owed_empty : (r : Row) → r.holder ≡ None → engines_of r.queue ≡ [] → Matches r.queue → Fits r.queue → Owed (replicate 64 r)
-owed_empty r free none m f =
-    owed (replicate 64 r) refl
-    (at (λ y. Matches y.queue) m (λ e h. holds_none e))
-    (at (λ y. Fits y.queue) f (omega arith))
-    (quiet_sound (section_of r) free none)
-  where
-    at : (P : Row → Type 0) → P r → P idle_row → (q : ℕ) → P (get_or (replicate 64 r) q idle_row)
-    at P here past q = elim (cases_lt q 64) [ inl h ↦ rw (get_or-replicate 64 q r idle_row h) here | inr h ↦ rw (get_or_past (replicate 64 r) q idle_row h) past ]
+-- who is admitted waits nowhere
+pub absent : (x : Sections) (e p : ℕ) (d : Row) → refusal_of (table_of x) e p ≡ None → is_in e (engines_of (get_or x.rows p d).queue) ≡ false
+absent x e p d free =
+    let place = (not_refused (table_of x) e p free).1 in
+    let here = section_read x.rows p d (omega (arith, x.whole, place)) in
+    not-true (is_in e (engines_of (get_or x.rows p d).queue)) (λ w. waits_nowhere e (table_of x) (not_refused (table_of x) e p free).2 p (ap (λ s. is_in e s.queue) here ∙ w))
 
--- the section that a row stands for is in order
-pub row_order : (x : Sections) (p : ℕ) → InOrder (section_of (get_or x.rows p idle_row))
-row_order x p = subst InOrder (section_at x.rows p) ((sound_of x).order p)
+pub in_range_known : (b : Bool) (u : Unit {0}) → cond b (Ok tt) (Err OutOfRange) ≡ Ok u → b ≡ true
+in_range_known true u h = refl
+in_range_known false u h = cc
 
--- who waits nowhere finds room in every queue
-pub room_for : (x : Sections) (e p : ℕ) → e < 64 → waits e (table_of x) ≡ false → (get_or x.rows p idle_row).queue.length < 64
-room_for x e p below n =
-    let q = (get_or x.rows p idle_row).queue in
-    let i = row_order x p in
-    let out : is_in e (engines_of q) ≡ false = not-true (is_in e (engines_of q)) (λ w. waits_nowhere e (table_of x) n p (ap (λ s. is_in e s.queue) (section_at x.rows p) ∙ w)) in
-    let once : (not (is_in e (engines_of q)) && once (engines_of q)) ≡ true = and_from (not (is_in e (engines_of q))) (once (engines_of q)) (ap not out) i.twice in
-    let each : (y : ℕ) → is_in y (e ∷ engines_of q) ≡ true → y < 64 = λ y w. elim (or_cases (eqb e y) (is_in y (engines_of q)) w) [ inl h ↦ rw (eqb-true e y h) at below | inr h ↦ i.waiters y h ] in
-    omega (arith, at_most 64 (e ∷ engines_of q) once each, length-take-le q.length q.engines (x.fitting p))
+-- what a call ensures
+abbrev pub Told : Sections → Table → Result Done Refusal → Table × Result Done Refusal → Type 0
+Told x now answer due = record { after : (now, answer) ≡ due; in_turn : InTurn (table_of x) now; first : FirstServed (table_of x) now }
 
--- what comes to the section at a place, where nothing refuses it before
-module _ (x : Sections) (e p : ℕ) where
-  pub take_here : refusal_of (table_of x) e p ≡ None → take_section (section_of (get_or x.rows p idle_row)) e ≡ take_outcome (table_of x) e p
-  take_here h = ap (λ s. take_section s e) (sym (section_at x.rows p)) ∙ sym (ap (λ r. unless r (take_section (place_at (table_of x) p) e)) h)
+-- a call made something of the row at its place, or refused and left it as it was
+module _ (x : Sections) (e p : ℕ) (d new : Row) (answer : Result Done Refusal) where
+  -- the row as it was
+  abbrev old : Row
+  old = get_or x.rows p d
 
-  pub free_here : refusal_of (table_of x) e p ≡ None → free_section (section_of (get_or x.rows p idle_row)) e ≡ free_outcome (table_of x) e p
-  free_here h = ap (λ s. free_section s e) (sym (section_at x.rows p)) ∙ sym (ap (λ r. unless r (free_section (place_at (table_of x) p) e)) h)
+  -- what it made, in the table
+  settled_rows : (f : Section → Outcome) (o : Outcome) → p < 64 → f (place_at (table_of x) p) ≡ o → (section_of new, answer) ≡ answered (section_of old) (f (section_of old)) → (table_of_rows (set x.rows p new), answer) ≡ settle (table_of x) p o
+  settled_rows f o place same did =
+      let here = section_read x.rows p d (omega (arith, x.whole)) in
+      let there : (section_of new, answer) ≡ answered (place_at (table_of x) p) o = did ∙ ap (λ s. answered s (f s)) (sym here) ∙ ap (answered (place_at (table_of x) p)) same in
+      ap (λ t. (t, answer)) (table_set x.rows p new) ∙ ap (λ z. (put (table_of x) p z.0, z.1)) there ∙ by o
+    where
+      by : (o : Outcome) → (put (table_of x) p (answered (place_at (table_of x) p) o).0, (answered (place_at (table_of x) p) o).1) ≡ settle (table_of x) p o
+      by (Ok (s, done)) = refl
+      by (Err refusal) = ap (λ t. (t, Err refusal)) (set-get_or (table_of x) p idle)
 
-  pub give_up_here : e < 64 → p < 64 → give_up_section (section_of (get_or x.rows p idle_row)) e ≡ give_up_outcome (table_of x) e p
-  give_up_here h k = rw (and_from (ltb e 64) (ltb p 64) (lt-ltb e 64 h) (lt-ltb p 64 k)) (ap (λ s. give_up_section s e) (sym (section_at x.rows p)))
+  -- it keeps what the rows owe
+  owed : (o : Outcome) → (table_of_rows (set x.rows p new), answer) ≡ settle (table_of x) p o → Keeps (table_of x) p o → Owed (set x.rows p new)
+  owed o after k = record { whole = length-set x.rows p new ∙ x.whole; apart = subst OneQueue (sym (ap (λ z. z.0) after)) (settled (table_of x) p o (sound_of x) k).apart }
 
-pub placed : (p : ℕ) (r : Result (Row × Done) Refusal) → p < 64 → Placed p r
-placed p (Ok _) h = h
-placed p (Err _) h = tt
+  -- and is fair
+  told : (o : Outcome) → (table_of_rows (set x.rows p new), answer) ≡ settle (table_of x) p o → FairOutcome (place_at (table_of x) p) o → Told x (table_of_rows (set x.rows p new)) answer (settle (table_of x) p o)
+  told o after f =
+      let same = sym (ap (λ z. z.0) after) in
+      record { after = after; in_turn = subst (InTurn (table_of x)) same (in_turn (table_of x) p o f); first = subst (FirstServed (table_of x)) same (first_served (table_of x) p o f) }
+
+  module _ (free : refusal_of (table_of x) e p ≡ None) where
+    place : p < 64
+    place = (not_refused (table_of x) e p free).1
+
+    admitted : (o : Outcome) → o ≡ unless (refusal_of (table_of x) e p) o
+    admitted o = sym (ap (λ r. unless r o) free)
+
+    module _ (did : (section_of new, answer) ≡ answered (section_of old) (take_section (section_of old) e)) where
+      after_take : (table_of_rows (set x.rows p new), answer) ≡ take_of (table_of x) e p
+      after_take = settled_rows (λ s. take_section s e) (take_outcome (table_of x) e p) place (admitted _) did
+
+      pub take_owed : Owed (set x.rows p new)
+      take_owed = owed (take_outcome (table_of x) e p) after_take (take_keeps (table_of x) e p (sound_of x))
+
+      pub take_told : Told x (table_of_rows (set x.rows p new)) answer (take_of (table_of x) e p)
+      take_told = told (take_outcome (table_of x) e p) after_take (take_fair (table_of x) e p)
+
+    module _ (did : (section_of new, answer) ≡ answered (section_of old) (free_section (section_of old) e)) where
+      after_free : (table_of_rows (set x.rows p new), answer) ≡ free_of (table_of x) e p
+      after_free = settled_rows (λ s. free_section s e) (free_outcome (table_of x) e p) place (admitted _) did
+
+      pub free_owed : Owed (set x.rows p new)
+      free_owed = owed (free_outcome (table_of x) e p) after_free (free_keeps (table_of x) e p (sound_of x))
+
+      pub free_told : Told x (table_of_rows (set x.rows p new)) answer (free_of (table_of x) e p)
+      free_told = told (free_outcome (table_of x) e p) after_free (free_fair (table_of x) e p)
+
+  module _ (in_range : known e p ≡ true) (did : (section_of new, answer) ≡ answered (section_of old) (give_up_section (section_of old) e)) where
+    after_give_up : (table_of_rows (set x.rows p new), answer) ≡ give_up_of (table_of x) e p
+    after_give_up = settled_rows (λ s. give_up_section s e) (give_up_outcome (table_of x) e p) (ltb-true p 64 (and_parts (ltb e 64) (ltb p 64) in_range).1) (sym (ap (λ b. cond b (give_up_section (place_at (table_of x) p) e) (Err OutOfRange)) in_range)) did
+
+    pub give_up_owed : Owed (set x.rows p new)
+    give_up_owed = owed (give_up_outcome (table_of x) e p) after_give_up (give_up_keeps (table_of x) e p (sound_of x))
+
+    pub give_up_told : Told x (table_of_rows (set x.rows p new)) answer (give_up_of (table_of x) e p)
+    give_up_told = told (give_up_outcome (table_of x) e p) after_give_up (give_up_fair (table_of x) e p)

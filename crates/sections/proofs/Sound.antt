@@ -79,7 +79,7 @@ taken_order s e i known h =
     }
 
 -- a section that another has is waited for
-joined_order : (s : Section) (e f : ℕ) → InOrder s → e < 64 → is_in e s.queue ≡ false → s.has ≡ Some f → (f ≡ e → ⊥) → InOrder (record { has = s.has; queue = s.queue ++ e ∷ []; change = s.change })
+pub joined_order : (s : Section) (e f : ℕ) → InOrder s → e < 64 → is_in e s.queue ≡ false → s.has ≡ Some f → (f ≡ e → ⊥) → InOrder (record { has = s.has; queue = s.queue ++ e ∷ []; change = s.change })
 joined_order s e f i known out h n =
     record {
       twice = once_push e s.queue i.twice out;
@@ -90,7 +90,7 @@ joined_order s e f i known out h n =
     }
 
 -- a section passes to the first of its queue, or to nobody
-passed_order : (s : Section) → InOrder s → InOrder (pass_on s)
+pub passed_order : (s : Section) → InOrder s → InOrder (pass_on s)
 passed_order s i = go s.queue refl
   where
     go : (q : List ℕ) → s.queue ≡ q → InOrder (record { has = first_of q; queue = rest_of q; change = s.change + 1 })
@@ -114,7 +114,7 @@ passed_order s i = go s.queue refl
         }
 
 -- an engine leaves the queue
-left_order : (s : Section) (e : ℕ) → InOrder s → InOrder (record { has = s.has; queue = without e s.queue; change = s.change })
+pub left_order : (s : Section) (e : ℕ) → InOrder s → InOrder (record { has = s.has; queue = without e s.queue; change = s.change })
 left_order s e i =
     record {
       twice = once_without e s.queue i.twice;

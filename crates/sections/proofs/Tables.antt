@@ -1,13 +1,13 @@
 -- Reading a table: the new section where one was put, the old one elsewhere; and who waits nowhere.
-use Rattle.std.proofs.Common.{◌≡◌, ℕ, zero, suc, ◌<◌, ◌≤◌, false, ◌⊎◌, List, [], ◌∷◌, length, get_or, set, Some, None, Ok, Err, Option, refl, ap, ◌∙◌, inl, inr, arith}
+use Rattle.std.proofs.Common.{◌≡◌, ℕ, zero, suc, ◌<◌, ◌≤◌, false, ◌⊎◌, List, [], ◌∷◌, length, get_or, set, Some, None, Ok, Err, Option, refl, ap, inl, inr, arith}
 use Rattle.sections.specs.declared.Refusal.{Refusal}
 use Rattle.std.proofs.lemmas.Bool.Decides.{nat_tests}
-use Rattle.std.proofs.lemmas.List.{get_or-set_same, get_or-set_other, length-set, set_past, map-set, get_or_past}
+use Rattle.std.proofs.lemmas.List.{get_or-set_same, get_or-set_other, length-set, set_past, map-set, get_or_past, length-map}
 use Rattle.std.proofs.lemmas.Bool.{cases_eq, cases_lt, or_parts, or_from, both_ways, cases_Bool, ltb-true}
 use Rattle.sections.specs.declared.row.Row.{Row}
 use Rattle.sections.specs.Table.{Outcome, Section, Table, idle, is_in, put, refusal_of, place_at, settle, unless, waits}
 use Rattle.sections.specs.Sound.{WaitsAt}
-use Rattle.sections.specs.Layout.{idle_row, section_of, table_of_rows}
+use Rattle.sections.specs.Layout.{section_of, table_of_rows}
 
 pub put_here : (t : Table) (p : ℕ) (s : Section) → p < length t → place_at (put t p s) p ≡ s
 put_here t p s h = get_or-set_same t p s idle h
@@ -38,14 +38,14 @@ pub settle_length : (t : Table) (p : ℕ) (o : Outcome) → length (settle t p o
 settle_length t p (Ok (s, done)) = length-set t p s
 settle_length t p (Err refusal) = refl
 
--- the section that a row stands for
-pub section_at : (rows : List Row) (p : ℕ) → place_at (table_of_rows rows) p ≡ section_of (get_or rows p idle_row)
-section_at [] p = refl
-section_at (r ∷ rows) zero = refl
-section_at (r ∷ rows) (suc p) = section_at rows p
+-- the section that a row stands for; past the last row, one that nobody ever had
+pub section_read : (rows : List Row) (p : ℕ) (d : Row) → p < length rows → place_at (table_of_rows rows) p ≡ section_of (get_or rows p d)
+section_read [] p d h = absurd (omega arith)
+section_read (r ∷ rows) zero d h = refl
+section_read (r ∷ rows) (suc p) d h = section_read rows p d (omega arith)
 
 pub section_past : (rows : List Row) (p : ℕ) → length rows ≤ p → place_at (table_of_rows rows) p ≡ idle
-section_past rows p h = section_at rows p ∙ ap section_of (get_or_past rows p idle_row h)
+section_past rows p h = get_or_past (table_of_rows rows) p idle (omega (arith, length-map rows section_of))
 
 pub table_set : (rows : List Row) (p : ℕ) (r : Row) → table_of_rows (set rows p r) ≡ put (table_of_rows rows) p (section_of r)
 table_set rows p r = map-set section_of rows p r

@@ -13,7 +13,7 @@ pub record Fair (s s' : Section) : Type 0 where
   pub turn : (one other : ℕ) → is_in other s.queue ≡ true → ahead one other s'.queue ≡ true → ahead one other s.queue ≡ true
   pub first : (old new : ℕ) → s.has ≡ Some old → s'.has ≡ Some new → (old ≡ new → ⊥) → s.queue ≡ new ∷ s'.queue
 
-abbrev FairOutcome : Section → Outcome → Type 0
+abbrev pub FairOutcome : Section → Outcome → Type 0
 FairOutcome s (Ok (s', done)) = Fair s s'
 FairOutcome s (Err refusal) = Unit {0}
 

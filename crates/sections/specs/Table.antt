@@ -108,6 +108,11 @@ free_section s engine = free_by s.has s engine
 abbrev pub give_up_section : Section → ℕ → Outcome
 give_up_section s engine = cond (is_in engine s.queue) (Ok (record { has = s.has; queue = without engine s.queue; change = s.change }, Left)) (Err Mismatch)
 
+-- what a call makes of one section, and its answer; refused, the section stays as it was
+abbrev pub answered : Section → Outcome → Section × Result Done Refusal
+answered s (Ok (after, done)) = (after, Ok done)
+answered s (Err refusal) = (s, Err refusal)
+
 -- why an engine may neither take nor free a section, whoever has it
 abbrev pub refusal_of : Table → ℕ → ℕ → Option Refusal
 refusal_of t engine place = cond (known engine place) (cond (waits engine t) (Some Waiting) None) (Some OutOfRange)

@@ -3,8 +3,8 @@
 
 ghost use Rattle.std.specs.Prelude.{◌≡◌, length};
 ghost use Rattle.sections.specs.Bytes.{number_of, answer_byte, who_byte};
-ghost use Rattle.sections.specs.Layout.{AllMatch, AllFit, table_of_rows};
-ghost use Rattle.sections.specs.Sound.{NobodyTwice, NobodyItsOwn, NobodyForFree, OneQueue, WaitersKnown, HoldersKnown};
+ghost use Rattle.sections.specs.Layout.{table_of_rows};
+ghost use Rattle.sections.specs.Sound.{OneQueue};
 
 mod calls;
 pub mod promises;
@@ -31,32 +31,25 @@ pub enum Done {
     Left,
 }
 
-// Why a call was refused; nothing has changed then.
+// Why a call was refused; nothing has changed then. Messages and programs speak of each by its number.
 #[derive(Clone, Copy, PartialEq, Eq, Debug)]
 pub enum Refusal {
     // There is no such engine or section.
-    OutOfRange,
+    OutOfRange = 1,
     // The engine waits for a section of this box.
-    Waiting,
+    Waiting = 3,
     // Take: it has the section already; free: it hasn't; give up: it isn't in that queue.
-    Mismatch,
+    Mismatch = 4,
     // The section's change number has no next one.
-    AtLimit,
+    AtLimit = 7,
 }
 
-// One box's sections by place, with what always holds of them.
+// One box's sections by place; nobody waits for two of them.
 #[derive(Clone, Copy)]
 pub struct Sections {
     rows: [Row; 64],
     ghost whole: { length rows ≡ 64 },
-    ghost matched: { AllMatch rows },
-    ghost fitting: { AllFit rows },
-    ghost twice: { NobodyTwice (table_of_rows rows) },
-    ghost others: { NobodyItsOwn (table_of_rows rows) },
-    ghost had: { NobodyForFree (table_of_rows rows) },
     ghost apart: { OneQueue (table_of_rows rows) },
-    ghost waiters: { WaitersKnown (table_of_rows rows) },
-    ghost holders: { HoldersKnown (table_of_rows rows) },
 }
 
 impl Refusal {
@@ -64,12 +57,7 @@ impl Refusal {
     pub fn number(self) -> u8
         ensures { result ≡ number_of self }
     {
-        match self {
-            Refusal::OutOfRange => 1,
-            Refusal::Waiting => 3,
-            Refusal::Mismatch => 4,
-            Refusal::AtLimit => 7,
-        }
+        self as u8
     }
 }
 

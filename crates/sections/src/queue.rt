@@ -1,23 +1,31 @@
 // A section's queue: the engines in the order of coming, and beside them the set of those engines.
-ghost use Rattle.std.specs.Prelude.{◌≡◌, ℕ, ◌*◌, ◌%◌, ◌^◌, ◌<◌, ◌≤◌, true, false, [], ◌∷◌, ◌++◌, length, take, bit_and, bit_or, bit_xor};
+ghost use Rattle.std.specs.Prelude.{◌≡◌, ◌<◌, ◌≤◌, false, [], ◌∷◌, ◌++◌, length, take};
 ghost use Rattle.sections.specs.Table.{first_of, is_in, rest_of, without};
-ghost use Rattle.sections.specs.Sound.{once};
-ghost use Rattle.sections.specs.Layout.{Fits, Matches, engines_of};
+ghost use Rattle.sections.specs.Sound.{NobodyTwice, WaitersKnown};
+ghost use Rattle.sections.specs.Sets.{Fits, Matches};
 
+use crate::ENGINES;
+
+// The set is a 64-bit word beside the queue: it says in one step who is in it.
 #[derive(Clone, Copy)]
 pub struct Queue {
     engines: [u8; 64],
-    length: usize,
+    count: usize,
     set: u64,
+    ghost fits: { Fits count engines },
+    ghost matched: { Matches «set» (take count engines) },
+    ghost twice: { NobodyTwice (take count engines) },
+    ghost waiters: { WaitersKnown (take count engines) },
 }
 
 pub const EMPTY: Queue = Queue {
     engines: [0; 64],
-    length: 0,
+    count: 0,
     set: 0,
 };
 
 // Closes a queue up in place where an engine leaves it; how many are left.
+// The loop writes behind what it reads, in one array.
 fn close_up(queue: &mut [u8], engine: u8) -> usize
     ensures left { take result queue.new ≡ without engine queue.old }
     ensures fewer { result ≤ length queue.old }
@@ -33,100 +41,52 @@ fn close_up(queue: &mut [u8], engine: u8) -> usize
     left
 }
 
-// The set with an engine.
-fn with_engine(set: u64, engine: u8) -> u64
-    requires { engine < 64 }
-    ensures { result ≡ bit_or set ((1 * 2 ^ engine) % 2 ^ 64) }
-{
-    set | (1 << engine)
-}
-
-// The set without an engine.
-fn without_engine(set: u64, engine: u8) -> u64
-    requires { engine < 64 }
-    ensures { result ≡ bit_xor set (bit_and set ((1 * 2 ^ engine) % 2 ^ 64)) }
-{
-    set ^ (set & (1 << engine))
-}
-
 impl Queue {
+    ghost use Rattle.sections.specs.Queues.{engines_of};
+
     // The engines in the order of coming.
     pub fn engines(&self) -> &[u8]
-        requires fitting { Fits self.now }
         ensures { result.now ≡ engines_of self.now }
     {
-        let end = self.length;
-        &self.engines[0..end]
+        &self.engines[..self.count]
     }
 
     // Is the engine in the queue.
-    pub fn has(self, engine: u8) -> bool
-        requires matched { Matches self }
-        requires known { engine < 64 }
-        ensures { result ≡ is_in engine (engines_of self) }
+    pub fn has(&self, engine: u8) -> bool
+        ensures { result ≡ is_in engine (engines_of self.now) }
     {
-        (self.set >> engine) & 1 == 1
+        engine < ENGINES && (self.set >> engine) & 1 == 1
     }
 
-    // The queue with an engine at its end.
-    pub fn joined(self, engine: u8) -> Queue
-        requires room { self.length < 64 }
-        requires matched { Matches self }
+    // An engine that isn't in the queue joins it, at its end.
+    pub fn join(&mut self, engine: u8)
         requires known { engine < 64 }
-        ensures after { engines_of result ≡ engines_of self ++ engine ∷ [] }
-        ensures fitting { Fits result }
-        ensures matched { Matches result }
+        requires absent { is_in engine (engines_of self.old) ≡ false }
+        ensures { engines_of self.new ≡ engines_of self.old ++ engine ∷ [] }
+    {
+        self.engines[self.count] = engine;
+        self.count += 1;
+        self.set |= 1 << engine;
+    }
+
+    // An engine leaves the queue, from wherever it stood.
+    pub fn leave(&mut self, engine: u8)
+        requires { engine < 64 }
+        ensures { engines_of self.new ≡ without engine (engines_of self.old) }
     {
         let mut engines = self.engines;
-        engines[self.length] = engine;
-        Queue {
-            engines,
-            length: self.length + 1,
-            set: with_engine(self.set, engine),
-        }
+        self.count = close_up(&mut engines[..self.count], engine);
+        self.engines = engines;
+        self.set &= !(1 << engine);
     }
 
-    // The queue that an engine has left, from wherever it stood.
-    pub fn left(self, engine: u8) -> Queue
-        requires fitting { Fits self }
-        requires matched { Matches self }
-        requires known { engine < 64 }
-        ensures after { engines_of result ≡ without engine (engines_of self) }
-        ensures fitting { Fits result }
-        ensures matched { Matches result }
+    // The first leaves the queue, if anybody stands in it.
+    pub fn leave_first(&mut self) -> Option<u8>
+        ensures first { result ≡ first_of (engines_of self.old) }
+        ensures rest { engines_of self.new ≡ rest_of (engines_of self.old) }
     {
-        let mut engines = self.engines;
-        let end = self.length;
-        let length = close_up(&mut engines[0..end], engine);
-        Queue {
-            engines,
-            length,
-            set: without_engine(self.set, engine),
-        }
-    }
-
-    // Who stands first, if anybody does.
-    pub fn first(self) -> Option<u8>
-        requires fitting { Fits self }
-        ensures { result ≡ first_of (engines_of self) }
-    {
-        self.engines().first().copied()
-    }
-
-    // The queue that its first has left.
-    pub fn rest(self) -> Queue
-        requires fitting { Fits self }
-        requires matched { Matches self }
-        requires once { once (engines_of self) ≡ true }
-        requires known { (engine : ℕ) → is_in engine (engines_of self) ≡ true → engine < 64 }
-        ensures after { engines_of result ≡ rest_of (engines_of self) }
-        ensures fitting { Fits result }
-        ensures matched { Matches result }
-    {
-        if self.length == 0 {
-            self
-        } else {
-            self.left(self.engines[0])
-        }
+        let first = *self.engines().first()?;
+        self.leave(first);
+        Some(first)
     }
 }

@@ -24,9 +24,7 @@ impl MemoryFile {
         ensures bytes { held_by self.new ≡ take (self.old.synced + keep) (held_by self.old) }
         ensures synced { self.new.synced ≡ self.old.synced }
     {
-        if keep < self.bytes.len() - self.synced {
-            self.bytes.truncate(self.synced + keep);
-        }
+        self.bytes.truncate(self.synced.saturating_add(keep));
     }
 }
 
@@ -40,10 +38,8 @@ impl File for MemoryFile {
     ghost all = { first_of (Prim.search rules, Prim.grind (arith, Self.row.coded.inj)) };
 
     fn append(&mut self, bytes: &[u8]) -> Result<(), Fault> {
-        match self.bytes.extend_from_slice(bytes) {
-            Ok(()) => Ok(()),
-            Err(_) => Err(Fault::Memory),
-        }
+        self.bytes.extend_from_slice(bytes)?;
+        Ok(())
     }
 
     fn sync(&mut self) -> Result<(), Fault> {
@@ -56,9 +52,7 @@ impl File for MemoryFile {
     }
 
     fn cut(&mut self, kept: usize) -> Result<(), Fault> {
-        if kept < self.synced {
-            self.synced = kept;
-        }
+        self.synced = self.synced.min(kept);
         self.bytes.truncate(kept);
         Ok(())
     }

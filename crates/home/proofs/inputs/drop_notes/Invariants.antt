@@ -3,5 +3,5 @@ use Rattle.std.proofs.Common.{◌≡◌, ◌++◌, map, take, drop}
 use Rattle.home.specs.Inputs.{unless_for}
 use Rattle.home.proofs.inputs.drop_notes.Given as goal
 
-abbrev pub invariant-loop-i : goal.invariant-loop-i
-invariant-loop-i l = l.notes ≡ map (unless_for l.section) (take l.i l.initial.notes) ++ drop l.i l.initial.notes
+abbrev pub invariant-loop-note : goal.invariant-loop-note
+invariant-loop-note l = l.notes ≡ map (unless_for l.section) (take l.note-index l.initial.notes) ++ drop l.note-index l.initial.notes

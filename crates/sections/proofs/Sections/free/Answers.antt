@@ -1,33 +1,9 @@
--- the outcome, settled in the table: fair, and in order again
-use Rattle.std.proofs.Common.{sym, ap, ◌∙◌, subst}
-use Rattle.sections.specs.Model.{table_of}
-use Rattle.sections.specs.Promise.{FirstServed, InTurn}
-use Rattle.sections.specs.Sound.{Keeps}
-use Rattle.sections.specs.Table.{settle, free_outcome}
-use Rattle.sections.proofs.Rows.{sound_of}
-use Rattle.sections.proofs.Sound.{free_keeps}
-use Rattle.sections.proofs.Turns.{first_served, in_turn, free_fair}
+-- what the call made of the row is what it comes to: fair, and in order again
+use Rattle.sections.proofs.Rows.{free_owed, free_told}
 use Rattle.sections.proofs.Sections.free.Goals as goal
 
-pub settle-requires : goal.settle-requires
-settle-requires c =
-    let x = c.args.self.now in
-    let outcome = c.free_outcome-outcome.ensures in
-    record {
-      storable = outcome.storable;
-      placed = outcome.placed;
-      keeps = subst (Keeps (table_of x) c.args.place) (sym outcome.after) (free_keeps (table_of x) c.args.engine c.args.place (sound_of x));
-    }
+pub invariant_of-self : goal.invariant_of-self
+invariant_of-self c = free_owed c.args.self.now c.args.engine c.args.place c.index-rows-place.result c.free.new.self c.free.result c.in_ok-admit.ensures c.free.ensures
 
 pub returns : goal.returns
-returns c =
-    let t = table_of c.args.self.now in
-    let e = c.args.engine in
-    let p = c.args.place in
-    let after = c.settle.ensures ∙ ap (settle t p) c.free_outcome-outcome.ensures.after in
-    let same = sym (ap (λ z. z.0) after) in
-    record {
-      after = after;
-      in_turn = subst (InTurn t) same (in_turn t p (free_outcome t e p) (free_fair t e p));
-      first = subst (FirstServed t) same (first_served t p (free_outcome t e p) (free_fair t e p));
-    }
+returns c = free_told c.args.self.now c.args.engine c.args.place c.index-rows-place.result c.free.new.self c.free.result c.in_ok-admit.ensures c.free.ensures

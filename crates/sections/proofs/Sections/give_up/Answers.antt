@@ -1,33 +1,10 @@
--- the outcome, settled in the table: fair, and in order again
-use Rattle.std.proofs.Common.{sym, ap, ◌∙◌, subst}
-use Rattle.sections.specs.Model.{table_of}
-use Rattle.sections.specs.Promise.{FirstServed, InTurn}
-use Rattle.sections.specs.Sound.{Keeps}
-use Rattle.sections.specs.Table.{settle, give_up_outcome}
-use Rattle.sections.proofs.Rows.{sound_of}
-use Rattle.sections.proofs.Sound.{give_up_keeps}
-use Rattle.sections.proofs.Turns.{first_served, in_turn, give_up_fair}
+-- what the call made of the row is what it comes to: fair, and in order again
+use Rattle.std.proofs.Common.{sym, ◌∙◌}
+use Rattle.sections.proofs.Rows.{give_up_owed, give_up_told, in_range_known}
 use Rattle.sections.proofs.Sections.give_up.Goals as goal
 
-pub settle-requires : goal.settle-requires
-settle-requires c =
-    let x = c.args.self.now in
-    let outcome = c.give_up_outcome-outcome.ensures in
-    record {
-      storable = outcome.storable;
-      placed = outcome.placed;
-      keeps = subst (Keeps (table_of x) c.args.place) (sym outcome.after) (give_up_keeps (table_of x) c.args.engine c.args.place (sound_of x));
-    }
+pub invariant_of-self : goal.invariant_of-self
+invariant_of-self c = give_up_owed c.args.self.now c.args.engine c.args.place c.index-rows-place.result c.give_up.new.self c.give_up.result (in_range_known _ _ (sym c.in_range.ensures ∙ c.in_ok-in_range.was)) c.give_up.ensures
 
 pub returns : goal.returns
-returns c =
-    let t = table_of c.args.self.now in
-    let e = c.args.engine in
-    let p = c.args.place in
-    let after = c.settle.ensures ∙ ap (settle t p) c.give_up_outcome-outcome.ensures.after in
-    let same = sym (ap (λ z. z.0) after) in
-    record {
-      after = after;
-      in_turn = subst (InTurn t) same (in_turn t p (give_up_outcome t e p) (give_up_fair t e p));
-      first = subst (FirstServed t) same (first_served t p (give_up_outcome t e p) (give_up_fair t e p));
-    }
+returns c = give_up_told c.args.self.now c.args.engine c.args.place c.index-rows-place.result c.give_up.new.self c.give_up.result (in_range_known _ _ (sym c.in_range.ensures ∙ c.in_ok-in_range.was)) c.give_up.ensures

@@ -1,7 +1,7 @@
--- every row is idle, and stands for a section that nobody ever had
-use Rattle.std.proofs.Common.{refl, arith}
-use Rattle.sections.proofs.Rows.{holds_none, owed_empty}
+-- every row is idle
+use Rattle.std.proofs.Common.{refl}
+use Rattle.sections.proofs.Sound.{empty_sound}
 use Rattle.sections.proofs.Sections.new.Goals as goal
 
-pub invariant_of-result : goal.invariant_of-result
-invariant_of-result c = owed_empty _ refl refl (λ e h. holds_none e) (omega arith)
+pub invariant_of-result-3 : goal.invariant_of-result-3
+invariant_of-result-3 c = record { whole = refl; apart = empty_sound.apart }
