@@ -77,11 +77,7 @@ fn tell_to_give_back(call: Call, effects: &mut Effects) -> Result<(), Fault>
 }
 
 // An engine begins to wait: the section's box is told, and those that wait for the engine are told its new sign.
-fn say_beginning(
-    home: &Home,
-    beginning: Beginning,
-    effects: &mut Effects,
-) -> Result<(), Fault>
+fn say_beginning(home: &Home, beginning: Beginning, effects: &mut Effects) -> Result<(), Fault>
     ensures { OnOk result (log_of effects.new ≡ began_of home.now beginning.engine beginning.section beginning.change beginning.holder beginning.count beginning.own (log_of effects.old)) }
 {
     effects.record(Record::Beginning(beginning))?;

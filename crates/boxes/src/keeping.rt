@@ -19,12 +19,7 @@ impl SignalBox {
         section.keeper == self.home.number() && is_home(self.home.yard(), from, engine)
     }
 
-    fn send_change(
-        &self,
-        change: Change,
-        to: BoxNumber,
-        effects: &mut Effects,
-    ) -> Result<(), Fault>
+    fn send_change(&self, change: Change, to: BoxNumber, effects: &mut Effects) -> Result<(), Fault>
         ensures { OnOk result (log_of effects.new ≡ change_to (state_of self.now) change.section change.holder change.change to.0 (log_of effects.old)) }
     {
         if self

@@ -1,5 +1,5 @@
 -- Each turn replays one record more; at a wrong one its index is the answer.
-use Rattle.std.proofs.Common.{◌≡◌, Err, rules, sym, refl, ap, ◌∙◌}
+use Rattle.std.proofs.Common.{◌≡◌, Err, rules, sym, ap, ◌∙◌}
 use Rattle.boxes.specs.Model.{state_of}
 use Rattle.boxes.specs.Opening.{open_from, opened}
 use Rattle.boxes.proofs.Replays.{goes_on, none_left, stops}
