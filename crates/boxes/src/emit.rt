@@ -28,17 +28,13 @@ fn tell(home: &Home, by: Engine, sign: u64, to: Engine, effects: &mut Effects) -
     if let Some(note) = home.note(to)
         && home.holds(by, note.section)
     {
-        let count = note.count;
-        send_sign(
-            home,
-            Sign {
-                to,
-                count,
-                by,
-                sign,
-            },
-            effects,
-        )?;
+        let told = Sign {
+            to,
+            count: note.count,
+            by,
+            sign,
+        };
+        send_sign(home, told, effects)?;
     }
     Ok(())
 }
@@ -52,8 +48,7 @@ pub(crate) fn tell_waiters(
 ) -> Result<(), Fault>
     ensures { OnOk result (log_of effects.new ≡ tells_of home.now by sign (log_of effects.old)) }
 {
-    let engines = home.yard().engines;
-    for to in (0..engines).map(Engine) {
+    for to in (0..home.yard().engines).map(Engine) {
         tell(home, by, sign, to, effects)?;
     }
     Ok(())

@@ -53,8 +53,7 @@ impl SignalBox {
         if from != change.section.keeper {
             return effects.say(Output::Refused(Refusal::Malformed));
         }
-        let engines = self.home.yard().engines;
-        for engine in (0..engines).map(Engine) {
+        for engine in (0..self.home.yard().engines).map(Engine) {
             self.change_for(change, engine, effects)?;
         }
         Ok(())
