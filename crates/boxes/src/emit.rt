@@ -28,17 +28,13 @@ fn tell(home: &Home, by: Engine, sign: u64, to: Engine, effects: &mut Effects) -
     if let Some(note) = home.note(to)
         && home.holds(by, note.section)
     {
-        let count = note.count;
-        send_sign(
-            home,
-            Sign {
-                to,
-                count,
-                by,
-                sign,
-            },
-            effects,
-        )?;
+        let told = Sign {
+            to,
+            count: note.count,
+            by,
+            sign,
+        };
+        send_sign(home, told, effects)?;
     }
     Ok(())
 }
@@ -52,8 +48,7 @@ pub(crate) fn tell_waiters(
 ) -> Result<(), Fault>
     ensures { OnOk result (log_of effects.new ≡ tells_of home.now by sign (log_of effects.old)) }
 {
-    let engines = home.yard().engines;
-    for to in (0..engines).map(Engine) {
+    for to in (0..home.yard().engines).map(Engine) {
         tell(home, by, sign, to, effects)?;
     }
     Ok(())
@@ -77,11 +72,7 @@ fn tell_to_give_back(call: Call, effects: &mut Effects) -> Result<(), Fault>
 }
 
 // An engine begins to wait: the section's box is told, and those that wait for the engine are told its new sign.
-fn say_beginning(
-    home: &Home,
-    beginning: Beginning,
-    effects: &mut Effects,
-) -> Result<(), Fault>
+fn say_beginning(home: &Home, beginning: Beginning, effects: &mut Effects) -> Result<(), Fault>
     ensures { OnOk result (log_of effects.new ≡ began_of home.now beginning.engine beginning.section beginning.change beginning.holder beginning.count beginning.own (log_of effects.old)) }
 {
     effects.record(Record::Beginning(beginning))?;

@@ -53,8 +53,7 @@ impl SignalBox {
         if from != change.section.keeper {
             return effects.say(Output::Refused(Refusal::Malformed));
         }
-        let engines = self.home.yard().engines;
-        for engine in (0..engines).map(Engine) {
+        for engine in (0..self.home.yard().engines).map(Engine) {
             self.change_for(change, engine, effects)?;
         }
         Ok(())
@@ -76,7 +75,7 @@ impl SignalBox {
         if to != self.home.number() {
             return send(to, Message::Waits(waits), effects);
         }
-        let event = self.home.waits(waits);
+        let event = self.home.waits(waits.engine, waits.section, waits.count);
         emit(&self.home, event, effects)
     }
 
@@ -118,7 +117,7 @@ impl SignalBox {
         if from != waits.section.keeper {
             return effects.say(Output::Refused(Refusal::Malformed));
         }
-        let event = self.home.waits(waits);
+        let event = self.home.waits(waits.engine, waits.section, waits.count);
         emit(&self.home, event, effects)
     }
 

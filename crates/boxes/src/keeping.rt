@@ -19,12 +19,7 @@ impl SignalBox {
         section.keeper == self.home.number() && is_home(self.home.yard(), from, engine)
     }
 
-    fn send_change(
-        &self,
-        change: Change,
-        to: BoxNumber,
-        effects: &mut Effects,
-    ) -> Result<(), Fault>
+    fn send_change(&self, change: Change, to: BoxNumber, effects: &mut Effects) -> Result<(), Fault>
         ensures { OnOk result (log_of effects.new ≡ change_to (state_of self.now) change.section change.holder change.change to.0 (log_of effects.old)) }
     {
         if self
@@ -40,8 +35,7 @@ impl SignalBox {
     fn send_changes(&self, change: Change, effects: &mut Effects) -> Result<(), Fault>
         ensures { OnOk result (log_of effects.new ≡ changes_of (state_of self.now) change.section change.holder change.change (log_of effects.old)) }
     {
-        let boxes = self.home.yard().boxes;
-        for to in (0..boxes).map(BoxNumber) {
+        for to in (0..self.home.yard().boxes).map(BoxNumber) {
             self.send_change(change, to, effects)?;
         }
         Ok(())
@@ -59,6 +53,7 @@ impl SignalBox {
     }
 
     // What a verdict on a call gives; what used up its number is recorded.
+    // By verdict and not by question (recorded, refused, answered): each arm is read as a whole, in its order.
     fn say_verdict(&self, call: Call, verdict: Verdict, effects: &mut Effects) -> Result<(), Fault>
         ensures { OnOk result (log_of effects.new ≡ ruled_log (state_of self.now) call verdict (log_of effects.old)) }
     {
@@ -85,14 +80,12 @@ impl SignalBox {
             Verdict::PassedOn(answer) => {
                 effects.record(Record::Kept(call))?;
                 self.send_answer(call, answer, effects)?;
-                self.send_changes(
-                    Change {
-                        section: call.section,
-                        holder: answer.holder,
-                        change: answer.change,
-                    },
-                    effects,
-                )
+                let change = Change {
+                    section: call.section,
+                    holder: answer.holder,
+                    change: answer.change,
+                };
+                self.send_changes(change, effects)
             }
         }
     }

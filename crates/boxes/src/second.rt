@@ -55,11 +55,11 @@ fn remind(home: &Home, engine: Engine, effects: &mut Effects) -> Result<(), Faul
 
 impl SignalBox {
     // Open calls, waits and signs again: what was lost comes in the end.
+    // This loop and that of the reminders stay two: a function that took the step as a closure would be longer than both.
     pub(crate) fn second(&self, effects: &mut Effects) -> Result<(), Fault>
         ensures { OnOk result (log_of effects.new ≡ second_of self.now.home (log_of effects.old)) }
     {
-        let engines = self.home.yard().engines;
-        for engine in (0..engines).map(Engine) {
+        for engine in (0..self.home.yard().engines).map(Engine) {
             second_for(&self.home, engine, effects)?;
         }
         Ok(())
@@ -69,8 +69,7 @@ impl SignalBox {
     pub fn remind(&self, effects: &mut Effects) -> Result<(), Fault>
         ensures { OnOk result (log_of effects.new ≡ reminders_of self.now.home (log_of effects.old)) }
     {
-        let engines = self.home.yard().engines;
-        for engine in (0..engines).map(Engine) {
+        for engine in (0..self.home.yard().engines).map(Engine) {
             remind(&self.home, engine, effects)?;
         }
         Ok(())

@@ -1,16 +1,17 @@
 -- Each turn tells one engine more.
-use Rattle.std.proofs.Common.{refl}
-use Rattle.home.specs.Queries.{engine}
-use Rattle.boxes.specs.Log.{log_of, each}
+use Rattle.std.proofs.Common.{rules, refl}
+use Rattle.boxes.specs.Log.{each}
 use Rattle.boxes.specs.Emit.{tell_of}
-use Rattle.boxes.proofs.Each.{turn}
+use Rattle.boxes.proofs.Each.{numbered, turn_over}
 use Rattle.boxes.proofs.emit.tell_waiters.Goals as goal
 
-pub loop-x-init : goal.loop-x-init
+pub loop-to-init : goal.loop-to-init
 unfolding each
-loop-x-init c = refl
+loop-to-init c = refl
 
-pub loop-x-preserved : goal.loop-x-preserved
-loop-x-preserved c =
-    turn (λ n. tell_of c.args.home.now c.args.by c.args.sign (engine n)) c.loop-x.x (log_of c.args.effects.now)
-    (log_of c.loop-x.effects) (log_of c.tell.new.effects) c.loop-x.invariant c.in_ok-tell.ensures
+pub loop-to-preserved : goal.loop-to-preserved
+loop-to-preserved c =
+    let items = c.map-to-items.ensures in
+    let all = numbered (λ n. record { 0 = n }) _ _ _ c.into_iter-to-iterator.ensures.into_iter_gives items.source items.closure (λ n e q k. search rules) in
+    turn_over _ (tell_of c.args.home.now c.args.by c.args.sign) _ all c.loop-to.yielded _ c.loop-to.yielded_by _ _ c.in-Some.to c.in-Some.is c.next.ensures.steps
+    _ _ _ c.loop-to.invariant c.in_ok-tell.ensures

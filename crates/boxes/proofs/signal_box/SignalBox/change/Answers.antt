@@ -1,19 +1,18 @@
 -- Each turn is one engine more.
-use Rattle.std.proofs.Common.{refl}
-use Rattle.home.specs.Queries.{engine}
-use Rattle.boxes.specs.Log.{log_of, each}
-use Rattle.boxes.specs.Model.{state_of}
+use Rattle.std.proofs.Common.{rules, refl}
+use Rattle.boxes.specs.Log.{each}
 use Rattle.boxes.specs.Handle.{change_for}
-use Rattle.boxes.proofs.Each.{turn}
+use Rattle.boxes.proofs.Each.{numbered, turn_over}
 use Rattle.boxes.proofs.signal_box.SignalBox.change.Goals as goal
 
-pub loop-e-init : goal.loop-e-init
+pub loop-engine-init : goal.loop-engine-init
 unfolding each
-loop-e-init c = refl
+loop-engine-init c = refl
 
-pub loop-e-preserved : goal.loop-e-preserved
-loop-e-preserved c =
-    turn (λ n. change_for c.args.section c.args.holder c.args.change (engine n)) c.loop-e.e
-    (state_of c.args.self.now, log_of c.args.effects.now)
-    (state_of c.loop-e.self, log_of c.loop-e.effects)
-    (state_of c.change_for.new.self, log_of c.change_for.new.effects) c.loop-e.invariant c.in_ok-change_for.ensures
+pub loop-engine-preserved : goal.loop-engine-preserved
+loop-engine-preserved c =
+    let change = c.args.change in
+    let items = c.map-engine-items.ensures in
+    let all = numbered (λ n. record { 0 = n }) _ _ _ c.into_iter-engine-iterator.ensures.into_iter_gives items.source items.closure (λ n e q k. search rules) in
+    turn_over _ (change_for change.section change.holder change.change) _ all c.loop-engine.yielded _ c.loop-engine.yielded_by _ _ c.in-Some.engine c.in-Some.is c.next.ensures.steps
+    _ _ _ c.loop-engine.invariant c.in_ok-change_for.ensures

@@ -1,16 +1,17 @@
 -- Each turn is one engine more.
-use Rattle.std.proofs.Common.{refl}
-use Rattle.home.specs.Queries.{engine}
-use Rattle.boxes.specs.Log.{log_of, each}
+use Rattle.std.proofs.Common.{rules, refl}
+use Rattle.boxes.specs.Log.{each}
 use Rattle.boxes.specs.Handle.{second_for}
-use Rattle.boxes.proofs.Each.{turn}
+use Rattle.boxes.proofs.Each.{numbered, turn_over}
 use Rattle.boxes.proofs.signal_box.SignalBox.second.Goals as goal
 
-pub loop-e-init : goal.loop-e-init
+pub loop-engine-init : goal.loop-engine-init
 unfolding each
-loop-e-init c = refl
+loop-engine-init c = refl
 
-pub loop-e-preserved : goal.loop-e-preserved
-loop-e-preserved c =
-    turn (λ n. second_for c.args.self.now.home (engine n)) c.loop-e.e (log_of c.args.effects.now) (log_of c.loop-e.effects)
-    (log_of c.second_for.new.effects) c.loop-e.invariant c.in_ok-second_for.ensures
+pub loop-engine-preserved : goal.loop-engine-preserved
+loop-engine-preserved c =
+    let items = c.map-engine-items.ensures in
+    let all = numbered (λ n. record { 0 = n }) _ _ _ c.into_iter-engine-iterator.ensures.into_iter_gives items.source items.closure (λ n e q k. search rules) in
+    turn_over _ (second_for c.args.self.now.home) _ all c.loop-engine.yielded _ c.loop-engine.yielded_by _ _ c.in-Some.engine c.in-Some.is c.next.ensures.steps
+    _ _ _ c.loop-engine.invariant c.in_ok-second_for.ensures
