@@ -6,7 +6,7 @@ ghost use Rattle.home.specs.Inputs.{has_section, unless_for, taken, take_of, fre
 
 use crate::home::{Home, Note, is_home};
 use engine_state::{Event, State};
-use messages::{Answer, BoxNumber, Call, Change, Engine, Refusal, Section, Sign};
+use messages::{Answer, BoxNumber, Call, Change, Engine, MOST_ENGINES, Refusal, Section, Sign};
 
 // The note, unless it is for the section.
 fn unless_for(note: Option<Note>, section: Section) -> Option<Note>
@@ -143,7 +143,7 @@ impl Home {
     fn note_waiter(&mut self, engine: Engine, note: Note, by: Engine) -> Event
         ensures { (self.new, result) ≡ noted self.old engine note.section note.count by }
     {
-        if engine.0 >= 64 || is_older(note.count, self.note(engine)) {
+        if engine.0 >= MOST_ENGINES || is_older(note.count, self.note(engine)) {
             return Event::PassedOver;
         }
         let Some(signs) = self.signs(by) else {
