@@ -119,6 +119,7 @@ impl Home {
 
     // A section has passed on, by that change: what one of ours makes of it.
     // Most of ours pass it over, and their states are left where they are.
+    #[tactic(auto, using(crate::proofs::Passed::passed))]
     pub fn change_at(&mut self, engine: Engine, change: Change) -> Event
         ensures { (self.new, result) ≡ change_of self.old engine change.section change.holder change.change }
     {

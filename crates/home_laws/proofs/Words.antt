@@ -1,5 +1,5 @@
 -- A word as a set of places: what clearing one bit does to that bit.
-use Rattle.std.proofs.Common.{◌≡◌, ℕ, ◌+◌, ◌%◌, ◌<◌, false, eqb, min, ap, ◌∙◌, arith}
+use Rattle.std.proofs.Common.{◌≡◌, ℕ, ◌<◌, false, eqb, ap, ◌∙◌, arith}
 use Rattle.std.specs.Prelude.{bit_and, bit_xor}
 use Rattle.std.specs.Int.{bit_at}
 use Rattle.std.proofs.lemmas.Nat.{one_shl}
@@ -12,5 +12,5 @@ own_bit p h = ap (λ n. bit_at n p) (one_shl p 64 h) ∙ bit_at-pow_same p
 pub cleared : (word p : ℕ) → p < 64 → marked (bit_xor word (bit_and word (bit p))) p ≡ false
 cleared word p h =
     let off : bit_at (bit_xor word (bit_and word (bit p))) p ≡ 0 =
-        omega (arith, bit_at_xor word (bit_and word (bit p)) p, bit_at_and word (bit p) p, own_bit p h, bit_at-lt word p)
+    omega (arith, bit_at_xor word (bit_and word (bit p)) p, bit_at_and word (bit p) p, own_bit p h, bit_at-lt word p)
     in ap (λ n. eqb n 1) off
