@@ -16,6 +16,9 @@ module _ {E : Type 0} (same : E → E → Bool) (whom : E → Option E) (first :
   chase_on zero at done h = absurd (omega arith)
   chase_on (suc left) at done h = let q : suc left - 1 ≡ left = omega arith in rw q refl
 
+  pub chase_start : (left : ℕ) (at : E) (done : List E) → done ≡ [] → chase same whom first left at done ≡ chase same whom first left at []
+  chase_start left at done q = ap (chase same whom first left at) q
+
   pub chase_out : (left : ℕ) (at : E) (done : List E) → 0 < left → whom at ≡ None → chase same whom first left at done ≡ None
   chase_out left at done h q =
       chase_on left at done h ∙ ap (follow same first (done ++ at ∷ []) (λ next. chase same whom first (left - 1) next (done ++ at ∷ []))) q

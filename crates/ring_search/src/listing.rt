@@ -4,8 +4,6 @@ ghost use Rattle.ring_search.specs.Listing.{empty_of, add_of};
 
 use signs::Engine;
 use signs::table::{ENGINES, Engines};
-use std::num::ParseIntError;
-use std::str::FromStr;
 use thiserror::Error;
 
 // A line's words.
@@ -17,43 +15,10 @@ pub struct Entry {
     pub own: u64,
 }
 
-// A text that is no line's words.
-#[derive(Clone, Copy, PartialEq, Eq, Debug, Error)]
-#[error("no line of a list")]
-pub struct BadEntry;
-
 // A line that is refused, by its number.
 #[derive(Clone, Copy, PartialEq, Eq, Debug, Error)]
 #[error("refused line {0}")]
 pub struct BadLine(pub u64);
-
-impl From<ParseIntError> for BadEntry {
-    fn from(_error: ParseIntError) -> BadEntry {
-        BadEntry
-    }
-}
-
-impl FromStr for Entry {
-    type Err = BadEntry;
-
-    // Four words, one blank between them.
-    fn from_str(text: &str) -> Result<Entry, BadEntry> {
-        let (engine, rest) = text.split_once(' ').ok_or(BadEntry)?;
-        let (wait, rest) = rest.split_once(' ').ok_or(BadEntry)?;
-        let (shown, own) = rest.split_once(' ').ok_or(BadEntry)?;
-        let wait = if wait == "-" {
-            None
-        } else {
-            Some(wait.parse()?)
-        };
-        Ok(Entry {
-            engine: engine.parse()?,
-            wait,
-            shown: shown.parse()?,
-            own: own.parse()?,
-        })
-    }
-}
 
 // The engines as listed; one that has no line waits for nobody.
 #[derive(Clone, Copy)]
@@ -108,7 +73,25 @@ impl Listing {
     pub fn read(&mut self, line: u64, text: &str) -> Result<(), BadLine>
         ensures { IfErr result (λ bad. (bad.0 ≡ line) × (self.new ≡ self.old)) }
     {
-        let entry = text.parse().map_err(|_| BadLine(line))?;
+        let entry = read_entry(text).ok_or(BadLine(line))?;
         self.add(line, entry)
     }
+}
+
+// The four words of a line, one blank between them.
+fn read_entry(text: &str) -> Option<Entry> {
+    let (engine, rest) = text.split_once(' ')?;
+    let (wait, rest) = rest.split_once(' ')?;
+    let (shown, own) = rest.split_once(' ')?;
+    let wait = if wait == "-" {
+        None
+    } else {
+        Some(wait.parse().ok()?)
+    };
+    Some(Entry {
+        engine: engine.parse().ok()?,
+        wait,
+        shown: shown.parse().ok()?,
+        own: own.parse().ok()?,
+    })
 }

@@ -18,6 +18,7 @@ pub trait Waits {
 }
 
 // The engines on the way from `first` along waits until they come back to it. None where they end, or come round elsewhere.
+#[tactic(auto, using(crate::proofs::Chase::chase_start))]
 pub fn way_back<W: Waits>(
     heap: Global,
     waits: &W,

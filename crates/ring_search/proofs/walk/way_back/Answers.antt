@@ -5,10 +5,6 @@ use Rattle.ring_search.specs.Chase.{chase}
 use Rattle.ring_search.proofs.Chase.{chase_out, chase_back, chase_next, chase_end}
 use Rattle.ring_search.proofs.walk.way_back.Goals as goal
 
-pub loop-left-init : goal.loop-left-init
-loop-left-init g c =
-    ap (chase g.W.Engine.PartialEq.eq (g.W.Waits.whom c.args.waits.now) c.args.first 64 c.args.first) c.new-way.ensures.items
-
 pub returns-in-None : goal.returns-in-None
 returns-in-None g c =
     sym (chase_out g.W.Engine.PartialEq.eq (g.W.Waits.whom c.args.waits.now) c.args.first c.loop-left._left c.loop-left.at (vec_items c.loop-left.way) (omega arith) (sym c.whom.ensures ∙ c.in-None.is))
