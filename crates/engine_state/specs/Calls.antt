@@ -72,10 +72,10 @@ holds_of x s = is_that (had_of x) s || has_of x.stored.kept s
 abbrev pub holds_any : State → Bool
 holds_any x = is_some (had_of x) || not (empty_of x.stored.kept)
 
-abbrev pub gave_up : Asked → Bool
-gave_up asked.Nothing = false
-gave_up asked.Took = false
-gave_up asked.GaveUp = true
+abbrev pub gave_up : Option Asked → Bool
+gave_up None = false
+gave_up (Some asked.Took) = false
+gave_up (Some asked.GaveUp) = true
 
 -- its last call that isn't a free is a give up, and it holds a section
 abbrev pub giving_back : State → Bool

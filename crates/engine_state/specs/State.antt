@@ -46,10 +46,10 @@ abbrev pub numbered : List ℕ → BoxNumber → ℕ → List ℕ
 numbered used b n = cond (nat_lt b.0 16) (slice_set used b.0 n) used
 
 -- the last call that isn't a free, after one more call
-abbrev pub asked_after : Asked → Act → Asked
-asked_after x act.Take = asked.Took
+abbrev pub asked_after : Option Asked → Act → Option Asked
+asked_after x act.Take = Some asked.Took
 asked_after x act.Free = x
-asked_after x act.GiveUp = asked.GaveUp
+asked_after x act.GiveUp = Some asked.GaveUp
 
 -- what was wanted is kept, unless it is given up: the engine must have got it
 abbrev pub got_by : Places → Call → Section → Act → Places
@@ -100,8 +100,8 @@ knowing x k = record { stored = x.stored; known = k; signs = x.signs }
 
 -- an engine of which there is no record yet
 abbrev pub blank : Stored
-blank = record { mode = mode.Idle; used = replicate 16 0; kept = no_place; asked = asked.Nothing }
+blank = record { mode = mode.Idle; used = replicate 16 0; kept = no_place; asked = None }
 
 -- what is read past the end of the table: nothing does
 abbrev pub unread : Stored
-unread = record { mode = mode.Idle; used = []; kept = record { words = [] }; asked = asked.Nothing }
+unread = record { mode = mode.Idle; used = []; kept = record { words = [] }; asked = None }

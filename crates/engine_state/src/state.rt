@@ -29,21 +29,20 @@ pub enum Known {
     Closed,
 }
 
-// The last call that isn't a free.
+// A call that isn't a free.
 #[derive(Clone, Copy, PartialEq, Eq)]
 pub enum Asked {
-    Nothing,
     Took,
     GaveUp,
 }
 
-// `used`: for each box the last call number. `kept`: sections that the engine got before the mode's business.
+// `used`: for each box the last call number. `kept`: sections that the engine got before the mode's business. `asked`: the last call that isn't a free, if there was one.
 #[derive(Clone, Copy)]
 pub struct Stored {
     pub mode: Mode,
     pub used: [u32; 16],
     pub kept: Places,
-    pub asked: Asked,
+    pub asked: Option<Asked>,
 }
 
 #[derive(Clone, Copy)]
@@ -110,15 +109,13 @@ impl Mode {
     }
 }
 
-impl Asked {
-    fn after(self, act: Act) -> Asked
-        ensures { result ≡ asked_after self act }
-    {
-        match act {
-            Act::Take => Asked::Took,
-            Act::Free => self,
-            Act::GiveUp => Asked::GaveUp,
-        }
+fn asked_after(asked: Option<Asked>, act: Act) -> Option<Asked>
+    ensures { result ≡ asked_after asked act }
+{
+    match act {
+        Act::Take => Some(Asked::Took),
+        Act::Free => asked,
+        Act::GiveUp => Some(Asked::GaveUp),
     }
 }
 
@@ -175,7 +172,7 @@ impl Stored {
             },
             used: self.used_after(call),
             kept: self.kept_after(call),
-            asked: self.asked.after(call.act),
+            asked: asked_after(self.asked, call.act),
         }
     }
 }
@@ -300,7 +297,7 @@ impl State {
     pub fn is_giving_back(self) -> bool
         ensures { result ≡ giving_back self }
     {
-        self.stored.asked == Asked::GaveUp && self.holds_any()
+        self.stored.asked == Some(Asked::GaveUp) && self.holds_any()
     }
 
     // The next call to a section's box.

@@ -2,7 +2,7 @@
 ghost use Rattle.std.specs.Prelude.{◌≡◌, ◌<◌};
 ghost use Rattle.home.specs.Home.{fresh_home, is_home, is_ours, IsState, with, made_of, apply_of, Recorded};
 
-use engine_state::{Asked, Known, Mode, Places, State, Stored};
+use engine_state::{Known, Mode, Places, State, Stored};
 use messages::{BoxNumber, Call, Engine, Record, Refusal, Section, Yard};
 use signs::table::Engines;
 
@@ -40,7 +40,7 @@ impl Home {
             mode: Mode::Idle,
             used: [0; 16],
             kept: Places::new(),
-            asked: Asked::Nothing,
+            asked: None,
         };
         Home {
             yard,
