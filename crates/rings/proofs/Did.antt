@@ -13,9 +13,6 @@ use Rattle.rings.specs.Net.{Tell, Net, with, Came, Finds, Step, begins, goes_on,
 pub for_same : {w : Wait} {i j : ℕ} → w ≡ Some i → w ≡ Some j → i ≡ j
 for_same p q = cc
 
-pub for_nobody : {w : Wait} {i : ℕ} → w ≡ Some i → w ≡ None → ⊥
-for_nobody p q = let z : ◌≡◌ {A = ℕ} 0 1 = cc in omega arith
-
 pub data Did (engines : ℕ) (n m : Net) (x : ℕ) : Type 0 where
   same : m.engine x ≡ n.engine x → Did engines n m x
   began : (j u : ℕ) → x < engines → j < engines → (n.engine x).wait ≡ None → (n.engine x).shown < u → u % engines ≡ x →
