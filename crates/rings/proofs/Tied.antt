@@ -1,6 +1,6 @@
 -- What the code's definitions give is a step of the net: each test that the code passed is a premise of the step.
 -- Assumes nothing.
-use Rattle.std.proofs.Common.{◌≡◌, ℕ, ◌<◌, true, false, ◌&&◌, eqb, ltb, Ok, Err, Result, sym, ap, arith, None, Some}
+use Rattle.std.proofs.Common.{◌≡◌, ℕ, ◌<◌, true, false, ◌&&◌, eqb, ltb, Ok, Result, sym, ap, arith, None, Some}
 use mathlib.Core.List.Memᴰ
 use mathlib.Core.List.{Memᴰ}
 use Rattle.std.proofs.lemmas.Bool.{cond_both, and_parts, ltb-true, eqb-true, eqb-false}
@@ -9,7 +9,7 @@ use Rattle.signs.specs.Signs.{Wait}
 use Rattle.signs.specs.declared.Engine.{Engine}
 use Rattle.signs.specs.declared.Refusal.{Refusal}
 use Rattle.signs.specs.declared.Heard.{Heard}
-use Rattle.signs.specs.declared.Heard.TheVariants.{TellOn, Found, PassedOver}
+use Rattle.signs.specs.declared.Heard.TheVariants.{TellOn, Found}
 use Rattle.signs.specs.Signs.{begin_of, hear_of, find_of, begun, showing, idle, next_own, out_of_range, has_room, waits_by, is_for}
 use Rattle.signs.proofs.Lowest.{own_is_lowest}
 use Rattle.rings.specs.Net.{Tell, Net, with, Came, Step, begins, hears, finds}
@@ -67,7 +67,7 @@ hear_step engines n e t s h =
     let after : e ≡ showing x t.sign = sym (ap (λ (z : Engine × Heard). z.0) (ok_same q)) in
     rw after
     (hears n t.to t.by t.sign (came n t h (of_wait n t w).1) (of_wait n t w).0 (ltb-true x.shown t.sign up)))
-    (λ up q. cc))
+    (λ up q. cc (ap (λ (z : Engine × Heard). z.1) (ok_same q))))
     (λ w q. cc)
 
 find_step : (engines : ℕ) (n : Net) (e : Engine) (t : Tell) → Memᴰ t n.sent →
@@ -84,7 +84,7 @@ find_step engines n e t h =
     rw after
     (finds n t.to t.by
     (rw (eqb-true t.sign x.own both.0) at (came n t h (of_wait n t w).1), (of_wait n t w).0, eqb-true x.shown x.own both.1)))
-    (λ own q. cc))
+    (λ own q. cc (ap (λ (z : Engine × Heard). z.1) (ok_same q))))
     (λ w q. cc)
 
 pub code_steps : AlwaysCodeSteps
