@@ -148,7 +148,7 @@ waits_below : (t : Engines) (y u : ℕ) → wait_of t y ≡ Some u → y < 64
 waits_below t y u =
     cond_both (ltb y 64) (engine_at t y).wait None (λ (v : Wait). v ≡ Some u → y < 64)
     (λ h q. ltb-true y 64 h)
-    (λ h q. let z : ◌≡◌ {A = ℕ} 0 1 = cc in absurd (omega arith))
+    (λ h q. cc)
 
 pub exactly_the_rings : (t : Engines) → Exactly (wait_of t) (own_of t) (rings_below (wait_of t) (own_of t) 64)
 exactly_the_rings t = exactly (wait_of t) (own_of t) (waits_below t)

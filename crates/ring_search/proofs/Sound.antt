@@ -11,10 +11,10 @@ use Rattle.ring_search.proofs.Chase.{chase_back, chase_next}
 
 -- where the search goes on, by the wait
 after_some : (v : Wait) (f y : ℕ) → after_of v f ≡ Some y → (v ≡ Some y) × (f ≤ y)
-after_some None f y = λ q. let z : ◌≡◌ {A = ℕ} 0 1 = cc in absurd (omega arith)
+after_some None f y = λ q. cc
 after_some (Some x) f y =
     cond_both (ltb x f) None (Some x) (λ (n : Wait). n ≡ Some y → (Some x ≡ Some y) × (f ≤ y))
-    (λ s q. let z : ◌≡◌ {A = ℕ} 0 1 = cc in absurd (omega arith))
+    (λ s q. cc)
     (λ s q. let same : x ≡ y = cc in (q, omega (arith, ltb-false x f s)))
 
 some_after : (v : Wait) (f y : ℕ) → v ≡ Some y → f ≤ y → after_of v f ≡ Some y
@@ -24,14 +24,14 @@ some_after v f y q h = rw q (cond-false (ltb y f) None (Some y) (le-ltb y f h))
 pub sound : (w : ℕ → Wait) (f n at : ℕ) (done r : List ℕ) → chase eqb (upward w f) f n at done ≡ Some r →
     (xs : List ℕ) × (r ≡ done ++ at ∷ xs) × Links w at xs f × ((y : ℕ) → Memᴰ y xs → f < y)
 unfolding chase
-sound w f zero at done r q = let z : ◌≡◌ {A = ℕ} 0 1 = cc in absurd (omega arith)
+sound w f zero at done r q = cc
 sound w f (suc n) at done r q = go (after_of (w at) f) refl q (λ next k. sound w f n next (done ++ at ∷ []) r k)
   where
     go : (x : Wait) → after_of (w at) f ≡ x → follow eqb f (done ++ at ∷ []) (λ next. chase eqb (upward w f) f n next (done ++ at ∷ [])) x ≡ Some r →
         ((next : ℕ) → chase eqb (upward w f) f n next (done ++ at ∷ []) ≡ Some r →
         (xs : List ℕ) × (r ≡ (done ++ at ∷ []) ++ next ∷ xs) × Links w next xs f × ((y : ℕ) → Memᴰ y xs → f < y)) →
         (xs : List ℕ) × (r ≡ done ++ at ∷ xs) × Links w at xs f × ((y : ℕ) → Memᴰ y xs → f < y)
-    go None e k ih = let z : ◌≡◌ {A = ℕ} 0 1 = cc in absurd (omega arith)
+    go None e k ih = cc
     go (Some next) e k ih =
         let on = after_some (w at) f next e in
         cond_both (eqb next f) (Some (done ++ at ∷ [])) (chase eqb (upward w f) f n next (done ++ at ∷ []))
@@ -93,7 +93,7 @@ pub ring_from : (w : ℕ → Wait) (own : ℕ → ℕ) (e : ℕ) (r : Judged) �
 ring_from w own e r = go (chase eqb (upward w e) e 64 e []) refl
   where
     go : (o : Option (List ℕ)) → chase eqb (upward w e) e 64 e [] ≡ o → judged own e o ≡ Some r → RingFrom w own e r
-    go None p q = let z : ◌≡◌ {A = ℕ} 0 1 = cc in absurd (omega arith)
+    go None p q = cc
     go (Some xs) p q =
         let s = sound w e 64 e [] xs p in
         let is : r ≡ record { engines = xs; finder = best_of own e xs } = cc in

@@ -5,7 +5,7 @@ use mathlib.Core.List.Memᴰ
 use mathlib.Core.List.{Memᴰ}
 use Rattle.std.proofs.lemmas.Bool.{cases_lt}
 use Rattle.rings.specs.Net.{Tell, Net, Step, Reach, still, onward, Along, one, more, InRing, Highest}
-use Rattle.rings.proofs.Did.{Did, same, began, left, heard, found, did, said, for_nobody, for_same}
+use Rattle.rings.proofs.Did.{Did, same, began, left, heard, found, did, said, for_same}
 use Rattle.rings.proofs.Tidy.{Tidy, tidy, wait_of, shown_of, own_of, own_rises}
 use Rattle.rings.proofs.Stays.{join, rotate, turn, waits}
 
@@ -22,13 +22,13 @@ module _ {engines : ℕ} {n m : Net} (order : Tidy engines n) (step : Step engin
   free_kept : {s x : ℕ} → (n.engine x).wait ≡ None → s ≤ (n.engine x).shown → Did engines n m x → Covered m s x
   free_kept f h (same q) = by_free (wait_of q ∙ f) (omega (arith, shown_of q))
   free_kept f h (began j u a b w up l q) = by_own (omega (arith, own_of q))
-  free_kept f h (left j w g q) = absurd (for_nobody w f)
-  free_kept f h (heard j s c w up q) = absurd (for_nobody w f)
-  free_kept f h (found j g q) = absurd (for_nobody g.1 f)
+  free_kept f h (left j w g q) = cc
+  free_kept f h (heard j s c w up q) = cc
+  free_kept f h (found j g q) = cc (g.1)
 
   next_kept : {s x : ℕ} (y : ℕ) → (n.engine x).wait ≡ Some y → s ≤ (n.engine x).shown → Covered m s y → Did engines n m x → Covered m s x
   next_kept y w h c (same q) = by_next y (wait_of q ∙ w) (omega (arith, shown_of q)) c
-  next_kept y w h c (began j u a b f up l q) = absurd (for_nobody w f)
+  next_kept y w h c (began j u a b f up l q) = cc
   next_kept y w h c (left j v g q) = by_free (wait_of q) (omega (arith, shown_of q))
   next_kept y w h c (heard j s d v up q) = by_next y (wait_of q ∙ w) (omega (arith, shown_of q)) c
   next_kept y w h c (found j g q) = by_free (wait_of q) (omega (arith, shown_of q))

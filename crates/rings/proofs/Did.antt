@@ -1,6 +1,6 @@
 -- A step seen from one engine: what it did, with one equation for each field, so that no update is ever unfolded again.
 -- Assumes nothing.
-use Rattle.std.proofs.Common.{◌≡◌, ℕ, ◌%◌, ◌<◌, eqb, ◌⊎◌, refl, inl, inr, arith, None, Some}
+use Rattle.std.proofs.Common.{◌≡◌, ℕ, ◌%◌, ◌<◌, eqb, ◌⊎◌, refl, inl, inr, None, Some}
 use mathlib.Core.List.Memᴰ
 use mathlib.Core.List.{Memᴰ}
 use Rattle.std.proofs.lemmas.Bool.{cases_eq, cond-true, cond-false, eq-eqb, ne_eqb}
@@ -12,9 +12,6 @@ use Rattle.rings.specs.Net.{Tell, Net, with, Came, Finds, Step, begins, goes_on,
 -- who waits for one waits for no other
 pub for_same : {w : Wait} {i j : ℕ} → w ≡ Some i → w ≡ Some j → i ≡ j
 for_same p q = cc
-
-pub for_nobody : {w : Wait} {i : ℕ} → w ≡ Some i → w ≡ None → ⊥
-for_nobody p q = let z : ◌≡◌ {A = ℕ} 0 1 = cc in omega arith
 
 pub data Did (engines : ℕ) (n m : Net) (x : ℕ) : Type 0 where
   same : m.engine x ≡ n.engine x → Did engines n m x

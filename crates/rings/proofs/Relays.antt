@@ -5,7 +5,7 @@ use mathlib.Core.List.Memᴰ
 use mathlib.Core.List.{Memᴰ}
 use Rattle.rings.specs.Net.{Tell, Net, start, Step, Reach, still, onward, Finds, Along, one, more}
 use Rattle.rings.specs.Promise.{AlwaysReal, OnlyHighest, OneFinder}
-use Rattle.rings.proofs.Did.{Did, same, began, left, heard, found, did, Said, said, for_nobody, for_same}
+use Rattle.rings.proofs.Did.{Did, same, began, left, heard, found, did, Said, said, for_same}
 use Rattle.rings.proofs.Tidy.{Tidy, tidy, wait_of, shown_of, own_of}
 
 -- from x waits lead to z, and all on the way show z's own sign or a higher one, and have lower ones of their own
@@ -15,8 +15,8 @@ pub data Relays (n : Net) (z : ℕ) : ℕ → Type 0 where
       Relays n z x
 
 relayer_waits : {n : Net} {z x v : ℕ} → (n.engine z).wait ≡ Some v → Relays n z x → (n.engine x).wait ≡ None → ⊥
-relayer_waits w here f = for_nobody w f
-relayer_waits w (via y e lt le r) f = for_nobody e f
+relayer_waits w here f = cc
+relayer_waits w (via y e lt le r) f = cc
 
 -- what is at x: who shows or told z's own sign relays it
 pub record Relayed (engines : ℕ) (n : Net) : Type 0 where
@@ -25,7 +25,7 @@ pub record Relayed (engines : ℕ) (n : Net) : Type 0 where
 
 relayed_start : (engines : ℕ) → Relayed engines start
 relayed_start engines =
-    record { shows = λ z v w x h q. absurd (for_nobody w refl); told = λ z v w t h q. absurd (Memᴰ.not-nil h) }
+    record { shows = λ z v w x h q. cc; told = λ z v w t h q. absurd (Memᴰ.not-nil h) }
 
 -- z waits as before, or has begun in this step
 data Since (engines : ℕ) (n m : Net) (z : ℕ) : Type 0 where
@@ -35,16 +35,16 @@ data Since (engines : ℕ) (n m : Net) (z : ℕ) : Type 0 where
 since : {engines : ℕ} {n m : Net} {z v : ℕ} → (m.engine z).wait ≡ Some v → Did engines n m z → Since engines n m z
 since {v = v} w (same q) = before v (sym (wait_of q) ∙ w) (own_of q)
 since w (began j u a b f up l q) = now a (rw (own_of q) up) (rw (own_of q) l)
-since w (left j e f q) = absurd (for_nobody w (wait_of q))
+since w (left j e f q) = cc (wait_of q)
 since w (heard j s c e up q) = before j e (own_of q)
-since w (found j f q) = absurd (for_nobody w (wait_of q))
+since w (found j f q) = cc (wait_of q)
 
 module _ {engines : ℕ} {n m : Net} (order : Tidy engines n) (after : Tidy engines m) (old : Relayed engines n) (step : Step engines n m) where
   -- one more of the chain stays in it
   via_kept : {z x v : ℕ} (y : ℕ) → (n.engine z).wait ≡ Some v → (m.engine z).own ≡ (n.engine z).own → (n.engine x).wait ≡ Some y →
       (n.engine x).own < (n.engine z).own → (n.engine z).own ≤ (n.engine x).shown → Relays n z y → Relays m z y → Did engines n m x → Relays m z x
   via_kept y w o e lt le r k (same q) = via y (wait_of q ∙ e) (omega (arith, own_of q)) (omega (arith, shown_of q)) k
-  via_kept y w o e lt le r k (began j u a b f up l q) = absurd (for_nobody e f)
+  via_kept y w o e lt le r k (began j u a b f up l q) = cc
   via_kept y w o e lt le r k (left j d f q) = absurd (relayer_waits w r (rw (for_same e d) f))
   via_kept y w o e lt le r k (heard j s c d up q) = via y (wait_of q ∙ e) (omega (arith, own_of q)) (omega (arith, shown_of q)) k
   via_kept y w o e lt le r k (found j f q) = absurd (omega (arith, f.2))

@@ -3,7 +3,7 @@
 use Rattle.std.proofs.Common.{◌≡◌, ℕ, suc, ◌⊎◌, sym, refl, ap, ◌∙◌, inl, inr, None, Some}
 use Rattle.rings.specs.Net.{Net, Step, Finds, Along, one, more, long, InRing}
 use Rattle.rings.specs.Promise.{RingStays, OwnSigns, OnlyUp}
-use Rattle.rings.proofs.Did.{Did, same, began, left, heard, found, did, for_nobody, for_same}
+use Rattle.rings.proofs.Did.{Did, same, began, left, heard, found, did, for_same}
 use Rattle.rings.proofs.Tidy.{tidy, wait_of, count_of, own_of, shown_rises}
 
 -- one wait more at the end
@@ -47,8 +47,8 @@ home a (more j w c) =
 
 -- whoever waits lead on from waits
 pub waits : {n : Net} {i j : ℕ} → Along n i j → (n.engine i).wait ≡ None → ⊥
-waits (one w) f = for_nobody w f
-waits (more y w a) f = for_nobody w f
+waits (one w) f = cc
+waits (more y w a) f = cc
 
 -- an engine's wait, its beginning and its own sign are as before
 abbrev pub Keeps : Net → Net → ℕ → Type 0
@@ -60,7 +60,7 @@ FindsNow n m k = (j : ℕ) × Finds n k j × ((m.engine k).wait ≡ None)
 
 one_keeps : {engines : ℕ} {n m : Net} {x y : ℕ} → (n.engine x).wait ≡ Some y → ((n.engine y).wait ≡ None → ⊥) → Did engines n m x → Keeps n m x ⊎ FindsNow n m x
 one_keeps w h (same q) = inl (wait_of q, count_of q, own_of q)
-one_keeps w h (began j u a b f up l q) = absurd (for_nobody w f)
+one_keeps w h (began j u a b f up l q) = cc
 one_keeps w h (left j v f q) = absurd (h (rw (for_same w v) f))
 one_keeps w h (heard j s c v up q) = inl (wait_of q, count_of q, own_of q)
 one_keeps w h (found j f q) = inr (j, f, wait_of q)

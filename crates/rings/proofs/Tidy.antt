@@ -5,7 +5,7 @@ use mathlib.Core.List.Memᴰ
 use mathlib.Core.List.{Memᴰ}
 use Rattle.signs.specs.declared.Engine.{Engine}
 use Rattle.rings.specs.Net.{Tell, Net, start, Step, Reach, still, onward}
-use Rattle.rings.proofs.Did.{Did, same, began, left, heard, found, did, said, for_nobody, for_same}
+use Rattle.rings.proofs.Did.{Did, same, began, left, heard, found, did, said, for_same}
 
 -- equal engines have equal fields
 pub wait_of : {a b : Engine} → a ≡ b → a.wait ≡ b.wait
@@ -46,7 +46,7 @@ tidy_start engines =
     record {
       leaves = λ i h. mod-eq_of_lt h;
       low = λ i. omega arith;
-      waiter = λ i j w. absurd (for_nobody w refl);
+      waiter = λ i j w. cc;
       kin = λ i h. rw (mod-eq_of_lt h) (omega arith);
       kin_told = λ t h. absurd (Memᴰ.not-nil h);
     }
@@ -69,9 +69,9 @@ module _ {engines : ℕ} {n m : Net} (old : Tidy engines n) (step : Step engines
   waiter_kept : {i j : ℕ} → (m.engine i).wait ≡ Some j → Did engines n m i → (i < engines) × (j < engines)
   waiter_kept w (same q) = old.waiter _ _ (sym (wait_of q) ∙ w)
   waiter_kept w (began k u a b f up l q) = (a, rw (for_same w (wait_of q)) b)
-  waiter_kept w (left k v f q) = absurd (for_nobody w (wait_of q))
+  waiter_kept w (left k v f q) = cc (wait_of q)
   waiter_kept w (heard k s c v up q) = old.waiter _ _ (sym (wait_of q) ∙ w)
-  waiter_kept w (found k f q) = absurd (for_nobody w (wait_of q))
+  waiter_kept w (found k f q) = cc (wait_of q)
 
   own_rose : (x : ℕ) → (n.engine x).own ≤ (m.engine x).own
   own_rose x = own_rises (old.low x) (did step x)

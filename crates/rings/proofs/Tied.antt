@@ -1,6 +1,6 @@
 -- What the code's definitions give is a step of the net: each test that the code passed is a premise of the step.
 -- Assumes nothing.
-use Rattle.std.proofs.Common.{◌≡◌, ℕ, ◌<◌, true, false, ◌&&◌, eqb, ltb, Ok, Err, Result, sym, ap, arith, None, Some}
+use Rattle.std.proofs.Common.{◌≡◌, ℕ, ◌<◌, true, false, ◌&&◌, eqb, ltb, Ok, Result, sym, ap, arith, None, Some}
 use mathlib.Core.List.Memᴰ
 use mathlib.Core.List.{Memᴰ}
 use Rattle.std.proofs.lemmas.Bool.{cond_both, and_parts, ltb-true, eqb-true, eqb-false}
@@ -9,14 +9,11 @@ use Rattle.signs.specs.Signs.{Wait}
 use Rattle.signs.specs.declared.Engine.{Engine}
 use Rattle.signs.specs.declared.Refusal.{Refusal}
 use Rattle.signs.specs.declared.Heard.{Heard}
-use Rattle.signs.specs.declared.Heard.TheVariants.{TellOn, Found, PassedOver}
+use Rattle.signs.specs.declared.Heard.TheVariants.{TellOn, Found}
 use Rattle.signs.specs.Signs.{begin_of, hear_of, find_of, begun, showing, idle, next_own, out_of_range, has_room, waits_by, is_for}
 use Rattle.signs.proofs.Lowest.{own_is_lowest}
 use Rattle.rings.specs.Net.{Tell, Net, with, Came, Step, begins, hears, finds}
 use Rattle.rings.specs.Promise.{AlwaysCodeSteps}
-
-refused : {A B : Type 0} {b : B} {a : A} → ◌≡◌ {A = Result A B} (Err b) (Ok a) → ⊥
-refused q = let z : ◌≡◌ {A = ℕ} 0 1 = cc in omega arith
 
 in_range : (engines i j : ℕ) → out_of_range i engines j ≡ false → (i < engines) × (j < engines)
 in_range engines i j q = (grind (arith, nat_tests), grind (arith, nat_tests))
@@ -28,10 +25,10 @@ begin_step : (engines : ℕ) (n : Net) (e : Engine) (i j : ℕ) → (n.engine i)
 begin_step engines n e i j free =
     let u : ℕ = next_own (n.engine i).shown i engines in
     cond_both (out_of_range i engines j) _ _ (λ (r : Result Engine Refusal). r ≡ Ok e → Step engines n (with i e n))
-    (λ t q. absurd (refused q))
+    (λ t q. cc)
     (λ known.
     cond_both (eqb j i) _ _ (λ (r : Result Engine Refusal). r ≡ Ok e → Step engines n (with i e n))
-    (λ t q. absurd (refused q))
+    (λ t q. cc)
     (λ other.
     cond_both (has_room (n.engine i) u) _ _ (λ (r : Result Engine Refusal). r ≡ Ok e → Step engines n (with i e n))
     (λ t q.
@@ -42,21 +39,15 @@ begin_step engines n e i j free =
     (begins n i j u below whom (λ p. eqb-false j i other (sym p)) free
     (own_is_lowest (n.engine i).shown i engines below).above
     (own_is_lowest (n.engine i).shown i engines below).leaves))
-    (λ t q. absurd (refused q))))
+    (λ t q. cc)))
 
 for_whom : (w : Wait) (j : ℕ) → is_for w j ≡ true → w ≡ Some j
-for_whom None j q = let z : ◌≡◌ {A = ℕ} 0 1 = cc in absurd (omega arith)
+for_whom None j q = cc
 for_whom (Some k) j q = ap Some (eqb-true k j q)
 
 -- what was told since the beginning that the engine still waits by
 came : (n : Net) (t : Tell) → Memᴰ t n.sent → (n.engine t.to).count ≡ t.count → Came n t.to t.by t.sign
 came n t h q = Memᴰ.cast (ap (λ (c : ℕ). record { to = t.to; count = c; by = t.by; sign = t.sign }) q) h
-
-passed_tell : {s : ℕ} → ◌≡◌ {A = Heard} PassedOver (TellOn s) → ⊥
-passed_tell q = let z : ◌≡◌ {A = ℕ} 0 1 = cc in omega arith
-
-passed_found : ◌≡◌ {A = Heard} PassedOver Found → ⊥
-passed_found q = let z : ◌≡◌ {A = ℕ} 0 1 = cc in omega arith
 
 -- a telling that is not refused is of the present wait
 of_wait : (n : Net) (t : Tell) → waits_by (n.engine t.to) t.by t.count ≡ true → ((n.engine t.to).wait ≡ Some t.by) × ((n.engine t.to).count ≡ t.count)
@@ -76,8 +67,8 @@ hear_step engines n e t s h =
     let after : e ≡ showing x t.sign = sym (ap (λ (z : Engine × Heard). z.0) (ok_same q)) in
     rw after
     (hears n t.to t.by t.sign (came n t h (of_wait n t w).1) (of_wait n t w).0 (ltb-true x.shown t.sign up)))
-    (λ up q. absurd (passed_tell (ap (λ (z : Engine × Heard). z.1) (ok_same q)))))
-    (λ w q. absurd (refused q))
+    (λ up q. cc (ap (λ (z : Engine × Heard). z.1) (ok_same q))))
+    (λ w q. cc)
 
 find_step : (engines : ℕ) (n : Net) (e : Engine) (t : Tell) → Memᴰ t n.sent →
     find_of (n.engine t.to) t.by t.count t.sign ≡ Ok (e, Found) → Step engines n (with t.to e n)
@@ -93,8 +84,8 @@ find_step engines n e t h =
     rw after
     (finds n t.to t.by
     (rw (eqb-true t.sign x.own both.0) at (came n t h (of_wait n t w).1), (of_wait n t w).0, eqb-true x.shown x.own both.1)))
-    (λ own q. absurd (passed_found (ap (λ (z : Engine × Heard). z.1) (ok_same q)))))
-    (λ w q. absurd (refused q))
+    (λ own q. cc (ap (λ (z : Engine × Heard). z.1) (ok_same q))))
+    (λ w q. cc)
 
 pub code_steps : AlwaysCodeSteps
 code_steps engines n e =
