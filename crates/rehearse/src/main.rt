@@ -6,12 +6,14 @@ mod show;
 mod text;
 
 use anyhow::anyhow;
-use boxes::SignalBox;
 use journal::Output;
-use messages::{BoxNumber, Engine};
+use keeper::Keeper;
+use messages::{BoxNumber, Engine, Holder, Section};
 use script::Line;
+use show::{EngineLine, PLACES, SectionLine};
 use std::alloc::Global;
-use std::io::{BufRead, BufReader, BufWriter, Write};
+use std::io::{self, BufRead, BufReader, BufWriter, Write};
+use text::OutputLine;
 use world::{Outcome, World};
 
 const REFUSED: &str = "refused 1";
@@ -19,72 +21,92 @@ const REFUSED: &str = "refused 1";
 // Prints what a box said, each message with its number.
 fn print_said<W: Write>(
     out: &mut W,
-    heap: Global,
     from: BoxNumber,
     before: usize,
     outputs: &[Output],
-) -> anyhow::Result<()> {
+) -> io::Result<()> {
     let mut number = before;
     for output in outputs {
         if let Output::Send { .. } = output {
             number = number.saturating_add(1);
         }
-        let text = text::output_text(heap, number, from, *output)?;
-        writeln!(out, "{text}")?;
+        let output = *output;
+        writeln!(
+            out,
+            "{}",
+            OutputLine {
+                number,
+                from,
+                output
+            }
+        )?;
     }
     Ok(())
 }
 
-fn print_sections<W: Write>(
-    out: &mut W,
-    heap: Global,
-    number: u8,
-    signal_box: &SignalBox,
-) -> anyhow::Result<()> {
-    for place in 0u8..64 {
-        if let Some(text) = show::section_text(heap, number, place, signal_box.keeper())? {
-            writeln!(out, "{text}")?;
+fn print_sections<W: Write>(out: &mut W, number: BoxNumber, keeper: &Keeper) -> io::Result<()> {
+    for place in 0..PLACES {
+        if let Holder::Engine(holder) = keeper.holder(place) {
+            let section = Section {
+                keeper: number,
+                place,
+            };
+            writeln!(
+                out,
+                "{}",
+                SectionLine {
+                    section,
+                    holder,
+                    keeper
+                }
+            )?;
         }
     }
     Ok(())
 }
 
 // Prints the sections that somebody has, then every engine.
-fn print_world<W: Write>(out: &mut W, heap: Global, world: &World) -> anyhow::Result<()> {
+fn print_world<W: Write>(out: &mut W, world: &World) -> io::Result<()> {
     let yard = world.yard();
-    for number in 0u8..yard.boxes {
-        if let Some(signal_box) = world.signal_box(BoxNumber(number)) {
-            print_sections(out, heap, number, signal_box)?;
+    for number in (0..yard.boxes).map(BoxNumber) {
+        if let Some(signal_box) = world.signal_box(number) {
+            print_sections(out, number, signal_box.keeper())?;
         }
     }
-    for number in 0u8..yard.engines {
-        let engine = Engine(number);
-        if let Some(signal_box) = world.signal_box(boxes::home_of(yard, engine)) {
-            if let Some(text) = show::engine_text(heap, signal_box.home(), engine)? {
-                writeln!(out, "{text}")?;
-            }
+    for engine in (0..yard.engines).map(Engine) {
+        let Some(signal_box) = world.signal_box(boxes::home_of(yard, engine)) else {
+            continue;
+        };
+        let home = signal_box.home();
+        if let Ok(state) = home.state(engine) {
+            let boxes = home.yard().boxes;
+            writeln!(
+                out,
+                "{}",
+                EngineLine {
+                    engine,
+                    state,
+                    boxes
+                }
+            )?;
         }
     }
     Ok(())
 }
 
 // Plays one line.
-fn play<W: Write>(out: &mut W, heap: Global, world: &mut World, line: &[u8]) -> anyhow::Result<()> {
+fn play<W: Write>(out: &mut W, world: &mut World, line: &[u8]) -> anyhow::Result<()> {
     match script::read(line) {
-        Line::Passed => Ok(()),
-        Line::Bad => Ok(writeln!(out, "{REFUSED}")?),
-        Line::Show => print_world(out, heap, world),
-        Line::Step(step) => match world.play(step) {
+        Some(Line::Passed) => Ok(()),
+        Some(Line::Show) => Ok(print_world(out, world)?),
+        Some(Line::Step(step)) => match world.play(step) {
             Ok(Outcome::Refused(_)) => Ok(writeln!(out, "{REFUSED}")?),
-            Ok(Outcome::Said { from, before, said }) => print_said(
-                out,
-                heap,
-                from,
-                before,
-                said.as_slice(),
-            ),
+            Ok(Outcome::Said { from, before, said }) => {
+                Ok(print_said(out, from, before, said.as_slice())?)
+            }
             Err(_) => Err(anyhow!("a box's file can't be gone on with")),
         },
+        None => Ok(writeln!(out, "{REFUSED}")?),
     }
 }
 
@@ -109,7 +131,7 @@ fn main(rt: HostRuntime) -> anyhow::Result<()> {
     for line in BufReader::new(heap, rt.stdin())?.lines(heap) {
         let line = line?;
         match &mut playing {
-            Some(world) => play(&mut out, heap, world, line.as_bytes())?,
+            Some(world) => play(&mut out, world, line.as_bytes())?,
             None => {
                 playing = begin(&mut out, heap, line.as_bytes())?;
             }

@@ -1,47 +1,37 @@
-// The text of what boxes know: sections and engines.
-use engine_state::{State, Wait};
-use home::Home;
+// The lines of what boxes know: sections and engines.
+use crate::text::Spot;
+use engine_state::State;
 use keeper::Keeper;
-use messages::{Act, BoxNumber, Call, Engine, Holder, Section};
-use std::alloc::{AllocError, Global};
+use messages::{Act, BoxNumber, Engine, Section};
+use std::fmt;
 
-// Those that wait for a section, each behind a blank.
-fn queue_text(heap: Global, keeper: &Keeper, place: u8) -> Result<String, AllocError> {
-    let mut text = String::new(heap);
-    for i in 0..keeper.queue_length(place) {
-        if let Some(engine) = keeper.waiter(place, i) {
-            let engine = engine.0;
-            text.push_str(format!(in heap; " {engine}")?.as_str())?;
-        }
-    }
-    Ok(text)
-}
+// The sections of a box.
+pub const PLACES: u8 = 64;
 
 // The line of a section that somebody has.
-pub fn section_text(
-    heap: Global,
-    number: u8,
-    place: u8,
-    keeper: &Keeper,
-) -> Result<Option<String>, AllocError> {
-    let Holder::Engine(holder) = keeper.holder(place) else {
-        return Ok(None);
-    };
-    let holder = holder.0;
-    let change = keeper.change(place);
-    let queue = queue_text(heap, keeper, place)?;
-    Ok(Some(format!(in heap; "section {number}:{place} {holder} {change}:{queue}")?))
+#[derive(Clone, Copy)]
+pub struct SectionLine<'a> {
+    pub section: Section,
+    pub holder: Engine,
+    pub keeper: &'a Keeper,
 }
 
-fn wait_text(heap: Global, wait: Option<Wait>) -> Result<String, AllocError> {
-    let Some(wait) = wait else {
-        return Ok(String::new(heap));
-    };
-    let whom = wait.whom.0;
-    let keeper = wait.section.keeper.0;
-    let place = wait.section.place;
-    let change = wait.change;
-    format!(in heap; " waits {whom} {keeper}:{place} {change}")
+impl fmt::Display for SectionLine<'_> {
+    fn fmt<W: fmt::Write>(&self, f: &mut fmt::Formatter<W>) -> fmt::Result {
+        let place = self.section.place;
+        let change = self.keeper.change(place);
+        write!(
+            f,
+            "section {} {} {change}:",
+            Spot(self.section),
+            self.holder.0
+        )?;
+        let places = 0..self.keeper.queue_length(place);
+        for waiter in places.filter_map(|i| self.keeper.waiter(place, i)) {
+            write!(f, " {}", waiter.0)?;
+        }
+        Ok(())
+    }
 }
 
 fn act_word(act: Act) -> &'static str {
@@ -52,65 +42,52 @@ fn act_word(act: Act) -> &'static str {
     }
 }
 
-fn open_text(heap: Global, call: Option<Call>) -> Result<String, AllocError> {
-    let Some(call) = call else {
-        return Ok(String::new(heap));
-    };
-    let act = act_word(call.act);
-    let keeper = call.section.keeper.0;
-    let place = call.section.place;
-    let number = call.number;
-    format!(in heap; " open {act} {keeper}:{place} {number}")
+// The line of an engine, in a yard of so many boxes.
+#[derive(Clone, Copy)]
+pub struct EngineLine {
+    pub engine: Engine,
+    pub state: State,
+    pub boxes: u8,
 }
 
-// The sections of one box that the engine holds, each behind a blank.
-fn held_at(heap: Global, state: State, keeper: u8) -> Result<String, AllocError> {
-    let mut text = String::new(heap);
-    for place in 0u8..64 {
-        let section = Section {
-            keeper: BoxNumber(keeper),
-            place,
-        };
-        if state.holds(section) {
-            text.push_str(format!(in heap; " {keeper}:{place}")?.as_str())?;
+impl fmt::Display for EngineLine {
+    fn fmt<W: fmt::Write>(&self, f: &mut fmt::Formatter<W>) -> fmt::Result {
+        let signs = self.state.signs;
+        write!(
+            f,
+            "engine {} shown {} own {} count {}",
+            self.engine.0, signs.shown, signs.own, signs.count
+        )?;
+        if let Some(wait) = self.state.wait() {
+            write!(
+                f,
+                " waits {} {} {}",
+                wait.whom.0,
+                Spot(wait.section),
+                wait.change
+            )?;
         }
+        if let Some(call) = self.state.open_call(self.engine) {
+            write!(
+                f,
+                " open {} {} {}",
+                act_word(call.act),
+                Spot(call.section),
+                call.number
+            )?;
+        }
+        let mut held = (0..self.boxes)
+            .flat_map(|keeper| (0..PLACES).map(move |place| Section {
+                keeper: BoxNumber(keeper),
+                place,
+            }))
+            .filter(|section| self.state.holds(*section));
+        if let Some(first) = held.next() {
+            write!(f, " has {}", Spot(first))?;
+            for section in held {
+                write!(f, " {}", Spot(section))?;
+            }
+        }
+        Ok(())
     }
-    Ok(text)
-}
-
-fn held_text(heap: Global, state: State, boxes: u8) -> Result<String, AllocError> {
-    let mut text = String::new(heap);
-    for keeper in 0u8..boxes {
-        text.push_str(held_at(heap, state, keeper)?.as_str())?;
-    }
-    Ok(text)
-}
-
-fn has_text(heap: Global, state: State, boxes: u8) -> Result<String, AllocError> {
-    let held = held_text(heap, state, boxes)?;
-    if held.is_empty() {
-        return Ok(held);
-    }
-    format!(in heap; " has{held}")
-}
-
-// The line of an engine of this home.
-pub fn engine_text(
-    heap: Global,
-    home: &Home,
-    engine: Engine,
-) -> Result<Option<String>, AllocError> {
-    let Ok(state) = home.state(engine) else {
-        return Ok(None);
-    };
-    let number = engine.0;
-    let shown = state.signs.shown;
-    let own = state.signs.own;
-    let count = state.signs.count;
-    let wait = wait_text(heap, state.wait())?;
-    let open = open_text(heap, state.open_call(engine))?;
-    let has = has_text(heap, state, home.yard().boxes)?;
-    Ok(Some(format!(in heap;
-        "engine {number} shown {shown} own {own} count {count}{wait}{open}{has}"
-    )?))
 }

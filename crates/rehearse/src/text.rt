@@ -1,57 +1,51 @@
-// The text of what boxes send and say.
+// The lines of what boxes send and say.
 use journal::Output;
-use messages::{BoxNumber, encode};
-use std::alloc::{AllocError, Global};
+use messages::{BoxNumber, Section, encode};
+use std::fmt;
 
-fn hex_digit(n: u8) -> char {
-    match n {
-        0..=9 => (b'0' + n) as char,
-        10..=15 => (b'a' + (n - 10)) as char,
-        16..=255 => '?',
+// A section, `B:P`.
+#[derive(Clone, Copy)]
+pub struct Spot(pub Section);
+
+impl fmt::Display for Spot {
+    fn fmt<W: fmt::Write>(&self, f: &mut fmt::Formatter<W>) -> fmt::Result {
+        write!(f, "{}:{}", self.0.keeper.0, self.0.place)
     }
 }
 
 // Bytes in hexadecimal.
-fn hex_text(heap: Global, bytes: &[u8]) -> Result<String, AllocError> {
-    let mut text = String::new(heap);
-    for byte in bytes {
-        text.push(hex_digit(*byte / 16))?;
-        text.push(hex_digit(*byte % 16))?;
+#[derive(Clone, Copy)]
+struct Hex<'a>(&'a [u8]);
+
+impl fmt::Display for Hex<'_> {
+    fn fmt<W: fmt::Write>(&self, f: &mut fmt::Formatter<W>) -> fmt::Result {
+        for byte in self.0 {
+            write!(f, "{byte:02x}")?;
+        }
+        Ok(())
     }
-    Ok(text)
 }
 
 // The line of an output; `number` is a message's.
-pub fn output_text(
-    heap: Global,
-    number: usize,
-    from: BoxNumber,
-    output: Output,
-) -> Result<String, AllocError> {
-    match output {
-        Output::Send { to, message } => {
-            let hex = hex_text(heap, encode(message).as_slice())?;
-            let from = from.0;
-            let to = to.0;
-            format!(in heap; "{number} {from} {to} {hex}")
-        }
-        Output::Had { engine, section } => {
-            let engine = engine.0;
-            let keeper = section.keeper.0;
-            let place = section.place;
-            format!(in heap; "had {engine} {keeper}:{place}")
-        }
-        Output::GiveBack { engine } => {
-            let engine = engine.0;
-            format!(in heap; "give back {engine}")
-        }
-        Output::GivingBack { engine } => {
-            let engine = engine.0;
-            format!(in heap; "giving back {engine}")
-        }
-        Output::Refused(refusal) => {
-            let number = refusal.number();
-            format!(in heap; "refused {number}")
+#[derive(Clone, Copy)]
+pub struct OutputLine {
+    pub number: usize,
+    pub from: BoxNumber,
+    pub output: Output,
+}
+
+impl fmt::Display for OutputLine {
+    fn fmt<W: fmt::Write>(&self, f: &mut fmt::Formatter<W>) -> fmt::Result {
+        match self.output {
+            Output::Send { to, message } => {
+                let bytes = encode(message);
+                let hex = Hex(bytes.as_slice());
+                write!(f, "{} {} {} {hex}", self.number, self.from.0, to.0)
+            }
+            Output::Had { engine, section } => write!(f, "had {} {}", engine.0, Spot(section)),
+            Output::GiveBack { engine } => write!(f, "give back {}", engine.0),
+            Output::GivingBack { engine } => write!(f, "giving back {}", engine.0),
+            Output::Refused(refusal) => write!(f, "refused {}", refusal.number()),
         }
     }
 }

@@ -1,7 +1,0 @@
--- What was passed is blank.
-use Rattle.std.proofs.Common.{◌≡◌, drop}
-use Rattle.rehearse.specs.Script.{is_blank}
-use Rattle.rehearse.proofs.script.is_blank.Given as goal
-
-abbrev pub invariant-loop-byte : goal.invariant-loop-byte
-invariant-loop-byte l = is_blank (drop l.byte-index l.line) ≡ is_blank l.line
