@@ -34,11 +34,10 @@ impl State {
         self,
         engine: Engine,
         engines: u8,
-        section: Section,
-        change: u32,
+        change: Change,
         whom: Engine,
     ) -> Result<(State, Event), Refusal>
-        ensures { told self result ≡ begin_at self engine engines section change whom }
+        ensures { told self result ≡ begin_at self engine engines change.section change.change whom }
     {
         let after = self
             .signs
@@ -46,8 +45,8 @@ impl State {
             .map_err(refused_for)?;
         let start = Beginning {
             engine,
-            section,
-            change,
+            section: change.section,
+            change: change.change,
             holder: whom,
             count: after.count,
             own: after.own,
@@ -68,7 +67,12 @@ impl State {
                 },
             )),
             (Reply::Waits, Some(whom)) if whom != call.engine => {
-                self.begin(call.engine, engines, call.section, answer.change, whom)
+                let change = Change {
+                    section: call.section,
+                    holder: answer.holder,
+                    change: answer.change,
+                };
+                self.begin(call.engine, engines, change, whom)
             }
             (Reply::Waits, _) => Err(Refusal::WrongCall),
             (Reply::Refused(Refusal::Exhausted), _) => Err(Refusal::Exhausted),
@@ -134,11 +138,11 @@ impl State {
     }
 
     // Is it a later change of the section that is waited for.
-    fn is_later(self, section: Section, change: u32) -> bool
-        ensures { result ≡ is_later (wait_of self) section change }
+    fn is_later(self, change: Change) -> bool
+        ensures { result ≡ is_later (wait_of self) change.section change.change }
     {
-        self.wait()
-            .is_some_and(|wait| wait.section == section && wait.change < change)
+        self.wait().is_some_and(|wait| wait.section == change.section
+            && wait.change < change.change)
     }
 
     // What is waited for has passed on.
@@ -150,14 +154,16 @@ impl State {
     ) -> Result<(State, Event), Refusal>
         ensures { told self result ≡ passed_to self engine engines change.section change.change change.holder }
     {
-        let section = change.section;
         match change.holder {
             None => Ok((self, Event::PassedOver)),
             Some(whom) if whom == engine => Ok((
                 self.knowing(Known::Had),
-                Event::Had { engine, section },
+                Event::Had {
+                    engine,
+                    section: change.section,
+                },
             )),
-            Some(whom) => self.begin(engine, engines, section, change.change, whom),
+            Some(whom) => self.begin(engine, engines, change, whom),
         }
     }
 
@@ -166,7 +172,7 @@ impl State {
     pub fn change_at(self, engine: Engine, engines: u8, change: Change) -> (State, Event)
         ensures { result ≡ change_at self engine engines change.section change.holder change.change }
     {
-        if self.is_later(change.section, change.change) {
+        if self.is_later(change) {
             self.told(self.passed_to(engine, engines, change))
         } else {
             (self, Event::PassedOver)

@@ -39,12 +39,13 @@ impl Places {
         self
     }
 
+    #[tactic(auto, using(crate::proofs::Bits::clears))]
     pub fn without(mut self, section: Section) -> Places
         ensures { result ≡ without_of self section }
     {
         if is_real(section) {
             let word = &mut self.words[section.keeper.0 as usize];
-            *word ^= *word & (1 << section.place);
+            *word &= !(1 << section.place);
         }
         self
     }

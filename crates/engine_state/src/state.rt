@@ -124,7 +124,7 @@ impl Asked {
 
 impl Stored {
     // The number of the next call to a box, if there is one left.
-    fn next_number(&self, keeper: BoxNumber) -> Option<u32>
+    pub fn next_number(&self, keeper: BoxNumber) -> Option<u32>
         ensures { result ≡ next_number self.now keeper }
     {
         self.used.get(keeper.0 as usize)?.checked_add(1)

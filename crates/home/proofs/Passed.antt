@@ -1,7 +1,6 @@
 -- A state that is put back where it stands changes nothing.
-use Rattle.std.specs.Prelude.{None}
 use Rattle.std.proofs.Common.{◌≡◌, ℕ, Bool, true, false, cond, None, sym, ap, ◌∙◌}
-use lib.Seq.{set-get_or}
+use Rattle.std.proofs.lemmas.List.{set-get_or}
 use Rattle.engine_state.specs.Calls.{wait_of}
 use Rattle.engine_state.specs.Inputs.{change_at, is_later, passed_to}
 use Rattle.engine_state.specs.declared.state.Event.{Event}

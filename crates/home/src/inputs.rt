@@ -6,7 +6,7 @@ ghost use Rattle.home.specs.Inputs.{has_section, unless_for, taken, take_of, fre
 
 use crate::home::{Home, Note, is_home};
 use engine_state::{Event, State};
-use messages::{Answer, BoxNumber, Call, Change, Engine, Refusal, Section, Sign};
+use messages::{Answer, BoxNumber, Call, Change, Engine, MOST_ENGINES, Refusal, Section, Sign};
 
 // The note, unless it is for the section.
 fn unless_for(note: Option<Note>, section: Section) -> Option<Note>
@@ -119,6 +119,7 @@ impl Home {
 
     // A section has passed on, by that change: what one of ours makes of it.
     // Most of ours pass it over, and their states are left where they are.
+    #[tactic(auto, using(crate::proofs::Passed::passed))]
     pub fn change_at(&mut self, engine: Engine, change: Change) -> Event
         ensures { (self.new, result) ≡ change_of self.old engine change.section change.holder change.change }
     {
@@ -143,7 +144,7 @@ impl Home {
     fn note_waiter(&mut self, engine: Engine, note: Note, by: Engine) -> Event
         ensures { (self.new, result) ≡ noted self.old engine note.section note.count by }
     {
-        if engine.0 >= 64 || is_older(note.count, self.note(engine)) {
+        if engine.0 >= MOST_ENGINES || is_older(note.count, self.note(engine)) {
             return Event::PassedOver;
         }
         let Some(signs) = self.signs(by) else {

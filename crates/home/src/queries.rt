@@ -22,11 +22,8 @@ impl Home {
     pub fn holds(&self, engine: Engine, section: Section) -> bool
         ensures { result ≡ holds_at self.now engine section }
     {
-        if !self.is_ours(engine) {
-            return false;
-        }
         let i = engine.0 as usize;
-        self.stored[i].holds(self.known[i], section)
+        self.is_ours(engine) && self.stored[i].holds(self.known[i], section)
     }
 
     pub fn is_giving_back(&self, engine: Engine) -> bool

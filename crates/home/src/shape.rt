@@ -22,13 +22,8 @@ impl Home {
     pub fn is_next(&self, call: Call) -> bool
         ensures { result ≡ is_next self.now call }
     {
-        let Ok(state) = self.state(call.engine) else {
-            return false;
-        };
-        if call.section.keeper.0 >= 16 {
-            return false;
-        }
-        let used = state.stored.used[call.section.keeper.0 as usize];
-        used as u64 + 1 == call.number as u64
+        self.state(call.engine).is_ok_and(|state| {
+            state.stored.next_number(call.section.keeper) == Some(call.number)
+        })
     }
 }

@@ -1,5 +1,4 @@
 -- An answer, a change or a sign either changes nothing, or leaves a state in which it is turned away.
-use Rattle.std.specs.Prelude.{None, Some}
 use Rattle.std.proofs.Common.{◌≡◌, ℕ, ◌<◌, Bool, true, false, cond, ◌&&◌, eqb, ltb, ◌⊎◌, Some, None, Ok, Err, Option, Result, sym, refl, ap, ◌∙◌, subst, inl, inr, arith}
 use Rattle.std.proofs.lemmas.Bool.{ltb-true, le-ltb, ne_eqb, and_right, and_left}
 use Rattle.messages.specs.declared.yard.BoxNumber.{BoxNumber}

@@ -1,5 +1,4 @@
 -- A free clears the section's bit; and the lowest holder found is one that holds.
-use Rattle.std.specs.Prelude.{None, Some}
 use Rattle.std.proofs.Common.{◌≡◌, ℕ, Bool, true, false, cond, not, ◌||◌, ltb, leb, List, [], ◌∷◌, map, length, set, Some, None, Option, sym, refl, ap, ◌∙◌, subst, arith, length-set, get_or-set_same}
 use Rattle.std.proofs.lemmas.Bool.{ltb-true, and_parts}
 use Rattle.std.specs.List.{find, range_with_len}
@@ -21,7 +20,7 @@ use Rattle.home.specs.Queries.{holds_at, engine, lowest, holder_of, note_at}
 use Rattle.home.specs.Inputs.{has_section, with_notes, is_older, noted_for}
 use Rattle.home_laws.specs.Held.{FreedIsNotHeld, ToldOfWhatIsHeld}
 use Rattle.home_laws.proofs.Words.{cleared}
-use lib.Bits.{bit_and, bit_or, bit_xor}
+use Rattle.std.specs.Prelude.{bit_and, bit_or, bit_xor}
 
 abbrev Wide : Places → Type 0
 Wide x = length x.words ≡ 16

@@ -1,5 +1,4 @@
 -- Case by case along the definitions: each way ends in a state that its event tells.
-use Rattle.std.specs.Prelude.{None, Some}
 use Rattle.std.proofs.Common.{◌≡◌, ℕ, ◌<◌, Bool, true, false, cond, ◌&&◌, eqb, ltb, ◌⊎◌, Some, None, Ok, Err, Option, Result, refl, subst, inl, inr}
 use Rattle.std.proofs.lemmas.Bool.{ltb-true}
 use Rattle.messages.specs.declared.yard.BoxNumber.{BoxNumber}

@@ -1,6 +1,5 @@
 -- One more is dropped or kept.
-use Rattle.std.specs.Prelude.{None}
-use Rattle.std.proofs.Common.{get_or, set, ap, ◌∙◌, arith}
+use Rattle.std.proofs.Common.{get_or, set, ap, ◌∙◌, arith, None}
 use Rattle.std.proofs.lemmas.List.Edits.{map_over_more}
 use Rattle.std.proofs.lemmas.List.{get_or_default}
 use Rattle.home.specs.Noted.{Noted}
