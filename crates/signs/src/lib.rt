@@ -8,6 +8,8 @@ ghost use Rattle.std.specs.Option.{SomeIff};
 
 pub mod table;
 
+use table::ENGINES;
+
 // One engine by value. `wait`: for whom it waits. `count`: how often it has begun to wait. `shown`: the sign that it shows. `own`: the sign that it took when it last began.
 #[derive(Clone, Copy, PartialEq, Eq, Debug)]
 pub struct Engine {
@@ -44,7 +46,7 @@ impl Refusal {
 
 // How far the lowest number above `shown` is that leaves `me` when divided by `engines`.
 fn ahead(shown: u64, me: u8, engines: u8) -> u64
-    requires { (1 ≤ engines) × (me < engines) }
+    requires { me < engines }
     ensures { result ≡ ahead_of shown me engines }
 {
     let left = shown % engines as u64;
@@ -57,7 +59,7 @@ fn ahead(shown: u64, me: u8, engines: u8) -> u64
 
 // The lowest number above `shown` that leaves `me` when divided by `engines`; none where it passes eight bytes.
 fn next_own(shown: u64, me: u8, engines: u8) -> Option<u64>
-    requires { (1 ≤ engines) × (me < engines) }
+    requires { me < engines }
     ensures value { SomeIff result (next_own shown me engines < 2 ^ 64) (next_own shown me engines) }
     ensures lowest { Lowest shown me engines (next_own shown me engines) }
 {
@@ -70,7 +72,7 @@ impl Engine {
         ensures value { result ≡ begin_of self me engines whom }
         ensures lowest { IfOk result (λ e. Lowest self.shown me engines e.own) }
     {
-        if engines == 0 || engines > 64 || me >= engines || whom >= engines {
+        if engines == 0 || engines > ENGINES || me >= engines || whom >= engines {
             return Err(Refusal::OutOfRange);
         }
         if whom == me {
@@ -98,6 +100,7 @@ impl Engine {
     }
 
     // A sign told by `by`: one above the sign shown is shown and told on.
+    // The teller, the count and the sign are plain numbers: what carries them together is a type of the messages, above this crate.
     pub fn hear(self, by: u8, count: u32, sign: u64) -> Result<(Engine, Heard), Refusal>
         ensures { result ≡ hear_of self by count sign }
     {
