@@ -200,9 +200,12 @@ impl World {
     {
         let heap = self.heap;
         let yard = self.yard;
-        self.turn_at(at, move |station: &mut Station| -> Result<Said, OpenFault>
-            ensures { IfOk result (λ said. Restarts yard at (station_of station.old) (station_of station.new, said_of said)) }
-        { station.stop(yard, at, heap) })
+        self.turn_at(
+            at,
+            move |station: &mut Station| -> Result<Said, OpenFault>
+                ensures { IfOk result (λ said. Restarts yard at (station_of station.old) (station_of station.new, said_of said)) }
+            { station.stop(yard, at, heap) },
+        )
     }
 
     pub fn play(&mut self, step: Step) -> Result<Outcome, OpenFault>
