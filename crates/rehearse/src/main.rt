@@ -74,7 +74,7 @@ fn print_world<W: Write>(out: &mut W, world: &World) -> io::Result<()> {
         }
     }
     for engine in (0..yard.engines).map(Engine) {
-        let Some(signal_box) = world.signal_box(boxes::home_of(yard, engine)) else {
+        let Some(signal_box) = world.signal_box(yard.home(engine)) else {
             continue;
         };
         let home = signal_box.home();
