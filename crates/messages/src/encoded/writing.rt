@@ -72,7 +72,7 @@ impl<const N: usize> Bytes<N> {
         ensures bytes { encoded result ≡ encoded self.entry ++ call_bytes call }
         ensures used { result.used ≡ self.entry.used + 8 }
     {
-        self.byte(call.act.byte())
+        self.byte(u8::from(call.act))
             .byte(call.engine.0)
             .section(call.section)
             .four(call.number)

@@ -1,12 +1,12 @@
 // From bytes to records, and back.
 ghost use Rattle.std.specs.Prelude.{◌≡◌};
-ghost use Rattle.messages.specs.Journal.{FirstIs, ReadIs, act_of, beginning_of, heard_of, kept_of, made_of, record_of, size_of, whole_call};
+ghost use Rattle.messages.specs.Journal.{FirstIs, ReadIs, beginning_of, heard_of, kept_of, made_of, record_of, size_of, whole_call};
 ghost use Rattle.messages.specs.Table.{record_bytes};
 ghost use Rattle.messages.specs.Written.{encoded};
 
 use crate::decoder::{call, eight_at, four_at};
 use crate::encoded::Encoded;
-use crate::message::{Act, Beginning, Call, Record};
+use crate::message::{Act, Beginning, Call, Record, Refusal};
 use crate::records::{First, Replay, Unread};
 use crate::yard::Yard;
 use std::alloc::Global;
@@ -106,18 +106,27 @@ fn whole_call(yard: Yard, bytes: &[u8]) -> Option<Call>
     let [first, rest @ ..] = bytes else {
         return None;
     };
-    let act = act_of(*first)?;
+    let act = Act::try_from(*first).ok()?;
     call(yard, act, rest)
 }
 
-fn act_of(first: u8) -> Option<Act>
-    ensures { result ≡ act_of first }
-{
-    match first {
-        1 => Some(Act::Take),
-        2 => Some(Act::Free),
-        3 => Some(Act::GiveUp),
-        0 | 4..=255 => None,
+impl TryFrom<u8> for Act {
+    ghost use Rattle.std.specs.Prelude.{◌≡◌};
+    ghost use Rattle.std.specs.Option.{ok_or};
+    ghost use Rattle.messages.specs.Journal.{act_of};
+    ghost use Rattle.messages.specs.declared.message.Refusal.TheVariants.{Malformed};
+
+    type Error = Refusal;
+
+    ghost try_from_gives = { λ byte act. act ≡ ok_or (act_of byte) Malformed };
+
+    fn try_from(byte: u8) -> Result<Act, Refusal> {
+        match byte {
+            1 => Ok(Act::Take),
+            2 => Ok(Act::Free),
+            3 => Ok(Act::GiveUp),
+            0 | 4..=255 => Err(Refusal::Malformed),
+        }
     }
 }
 

@@ -6,7 +6,7 @@ use Rattle.messages.proofs.encoded.Bytes.call.Goals as goal
 
 pub returns : goal.returns
 returns g c = record {
-  bytes = after _ _ _ c.byte-2.ensures.bytes (after _ _ _ c.byte-3.ensures.bytes (then (encoded c.byte-3.result) (two c.args.call.section) (four c.args.call.number) c.section.ensures.bytes c.four.ensures.bytes))
-      ∙ ap (λ (n : ℕ). encoded c.args.self ++ (n ∷ c.args.call.engine.0 ∷ two c.args.call.section ++ four c.args.call.number)) c.byte.ensures;
+  bytes = after _ _ _ c.byte.ensures.bytes (after _ _ _ c.byte-2.ensures.bytes (then (encoded c.byte-2.result) (two c.args.call.section) (four c.args.call.number) c.section.ensures.bytes c.four.ensures.bytes))
+      ∙ ap (λ (n : ℕ). encoded c.args.self ++ (n ∷ c.args.call.engine.0 ∷ two c.args.call.section ++ four c.args.call.number)) c.from.ensures;
   used = search rules;
 }
