@@ -7,6 +7,3 @@ returns-in-8 c = record_at c.args.yard c.args.bytes.now 8 _ (lit≤ tt) c.in-8.i
 
 pub returns-in-9 : goal.returns-in-9
 returns-in-9 c = record_at c.args.yard c.args.bytes.now 9 _ (lit≤ tt) c.in-9.is c.heard.ensures
-
-pub returns-in-10 : goal.returns-in-10
-returns-in-10 c = record_at c.args.yard c.args.bytes.now 10 _ (lit≤ tt) c.in-10.is c.made.ensures
