@@ -24,7 +24,7 @@ impl<const N: usize> Bytes<N> {
         }
     }
 
-    pub(crate) fn byte(mut self, b: u8) -> Self
+    pub fn byte(mut self, b: u8) -> Self
         requires { self.used < N }
         ensures bytes { encoded result ≡ encoded self.entry ++ (b ∷ []) }
         ensures used { result.used ≡ self.entry.used + 1 }
