@@ -1,6 +1,7 @@
 // From bytes to a message: the whole of them is one, or it is turned away.
 ghost use Rattle.std.specs.Prelude.{◌≡◌, ◌+◌, ◌≤◌, length};
 ghost use Rattle.std.specs.Option.{ok_or};
+ghost use Rattle.messages.specs.Journal.{whole_call};
 ghost use Rattle.messages.specs.Promises.{Decoded};
 ghost use Rattle.messages.specs.Reading.{answer_of, call_of, change_of, eight_at, four_at, kind_of, message_of, refusal_of, reply_of, sign_of, waits_of, which_of};
 
@@ -22,9 +23,7 @@ fn whole(yard: Yard, bytes: &[u8]) -> Option<Message>
         return None;
     };
     match *first {
-        1 => call(yard, Act::Take, rest).map(Message::Call),
-        2 => call(yard, Act::Free, rest).map(Message::Call),
-        3 => call(yard, Act::GiveUp, rest).map(Message::Call),
+        1..=3 => whole_call(yard, bytes).map(Message::Call),
         4 => answer(yard, rest),
         5 => change(yard, rest),
         6 => which_change(yard, rest),
@@ -34,7 +33,18 @@ fn whole(yard: Yard, bytes: &[u8]) -> Option<Message>
     }
 }
 
-pub(crate) fn call(yard: Yard, act: Act, rest: &[u8]) -> Option<Call>
+// A call: its act, and what follows.
+pub(crate) fn whole_call(yard: Yard, bytes: &[u8]) -> Option<Call>
+    ensures { result ≡ whole_call yard bytes.now }
+{
+    let [first, rest @ ..] = bytes else {
+        return None;
+    };
+    let act = Act::try_from(*first).ok()?;
+    call(yard, act, rest)
+}
+
+fn call(yard: Yard, act: Act, rest: &[u8]) -> Option<Call>
     ensures { result ≡ call_of yard act rest.now }
 {
     let [engine, keeper, place, _, _, _, _] = rest else {
@@ -49,6 +59,27 @@ pub(crate) fn call(yard: Yard, act: Act, rest: &[u8]) -> Option<Call>
         section,
         number,
     })
+}
+
+// An act, by the first byte of a call.
+impl TryFrom<u8> for Act {
+    ghost use Rattle.std.specs.Prelude.{◌≡◌};
+    ghost use Rattle.std.specs.Option.{ok_or};
+    ghost use Rattle.messages.specs.Journal.{act_of};
+    ghost use Rattle.messages.specs.declared.message.Refusal.TheVariants.{Malformed};
+
+    type Error = Refusal;
+
+    ghost try_from_gives = { λ byte act. act ≡ ok_or (act_of byte) Malformed };
+
+    fn try_from(byte: u8) -> Result<Act, Refusal> {
+        match byte {
+            1 => Ok(Act::Take),
+            2 => Ok(Act::Free),
+            3 => Ok(Act::GiveUp),
+            0 | 4..=255 => Err(Refusal::Malformed),
+        }
+    }
 }
 
 fn answer(yard: Yard, rest: &[u8]) -> Option<Message>

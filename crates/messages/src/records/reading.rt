@@ -1,12 +1,12 @@
 // From bytes to records, and back.
 ghost use Rattle.std.specs.Prelude.{◌≡◌};
-ghost use Rattle.messages.specs.Journal.{FirstIs, ReadIs, beginning_of, heard_of, record_of, size_of, whole_call};
+ghost use Rattle.messages.specs.Journal.{FirstIs, ReadIs, beginning_of, heard_of, record_of, size_of};
 ghost use Rattle.messages.specs.Table.{record_bytes};
 ghost use Rattle.messages.specs.Written.{encoded};
 
-use crate::decoder::{call, eight_at, four_at};
+use crate::decoder::{eight_at, four_at, whole_call};
 use crate::encoded::Encoded;
-use crate::message::{Act, Beginning, Call, Record, Refusal};
+use crate::message::{Beginning, Record};
 use crate::records::{First, Replay, Unread};
 use crate::yard::Yard;
 use std::alloc::Global;
@@ -83,36 +83,6 @@ fn whole_record(yard: Yard, bytes: &[u8]) -> Option<Record>
         10 => whole_call(yard, rest).map(Record::Made),
         1..=3 => whole_call(yard, bytes).map(Record::Kept),
         0 | 4..=7 | 11..=255 => None,
-    }
-}
-
-fn whole_call(yard: Yard, bytes: &[u8]) -> Option<Call>
-    ensures { result ≡ whole_call yard bytes.now }
-{
-    let [first, rest @ ..] = bytes else {
-        return None;
-    };
-    let act = Act::try_from(*first).ok()?;
-    call(yard, act, rest)
-}
-
-impl TryFrom<u8> for Act {
-    ghost use Rattle.std.specs.Prelude.{◌≡◌};
-    ghost use Rattle.std.specs.Option.{ok_or};
-    ghost use Rattle.messages.specs.Journal.{act_of};
-    ghost use Rattle.messages.specs.declared.message.Refusal.TheVariants.{Malformed};
-
-    type Error = Refusal;
-
-    ghost try_from_gives = { λ byte act. act ≡ ok_or (act_of byte) Malformed };
-
-    fn try_from(byte: u8) -> Result<Act, Refusal> {
-        match byte {
-            1 => Ok(Act::Take),
-            2 => Ok(Act::Free),
-            3 => Ok(Act::GiveUp),
-            0 | 4..=255 => Err(Refusal::Malformed),
-        }
     }
 }
 
