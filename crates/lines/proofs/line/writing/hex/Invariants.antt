@@ -1,7 +1,7 @@
 use Rattle.std.proofs.Common.{◌≡◌, ◌+◌, ◌*◌, ◌++◌, drop}
 use Rattle.lines.specs.Digits.{hex_of}
 use Rattle.lines.specs.Written.{bytes_of}
-use Rattle.lines.proofs.line.Buffer.hex.Given as goal
+use Rattle.lines.proofs.line.writing.hex.Given as goal
 
 abbrev pub invariant-loop-b : goal.invariant-loop-b
 invariant-loop-b l =

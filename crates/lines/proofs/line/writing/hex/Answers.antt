@@ -1,7 +1,7 @@
 use Rattle.std.proofs.Common.{arith}
 use Rattle.lines.specs.Written.{bytes_of}
 use Rattle.lines.proofs.Steps.{hex_end, hex_step}
-use Rattle.lines.proofs.line.Buffer.hex.Goals as goal
+use Rattle.lines.proofs.line.writing.hex.Goals as goal
 
 pub loop-b-preserved : goal.loop-b-preserved
 loop-b-preserved c = (
