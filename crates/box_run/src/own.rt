@@ -41,5 +41,4 @@ pub(crate) fn settle(state: &mut SignalBox, from: usize, effects: &mut Effects) 
 // What comes of it is pinned.
 pub fn settles_one_way()
     ensures { SettlesOneWay }
-{
-}
+{}

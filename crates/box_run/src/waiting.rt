@@ -17,5 +17,4 @@ pub fn whole_lines(text: &[u8]) -> usize
 // A text that is cut behind a newline has the same lines.
 pub fn cut_at_a_newline()
     ensures { CutAtANewline }
-{
-}
+{}

@@ -38,7 +38,8 @@ fn stand_for(yard: Yard, number: BoxNumber, records: &[Record]) -> Result<Signal
     ensures { StandsFor yard number records.now result }
 {
     SignalBox::open(yard, number, records)
-        .map_err(|unwritten| OpenFault::Damaged(byte_of(records, unwritten.index)))
+        .map_err(|unwritten| byte_of(records, unwritten.index))
+        .map_err(OpenFault::Damaged)
 }
 
 // Who was told to give back and still holds a section. Nothing is recorded.
