@@ -1,4 +1,5 @@
 pub mod Looking
+pub mod FindMap
 pub mod Found
 pub mod Reach
 pub mod Promised

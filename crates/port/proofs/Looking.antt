@@ -19,17 +19,6 @@ module _ {A : Type 0} (f : ℕ → Option A) where
   pub first_start : (end : ℕ) → first_from f (end - 0) 0 ≡ first_from f end 0
   first_start end = let q : end - 0 ≡ end = omega arith in rw q refl
 
-  pub first_hit : (end n : ℕ) (x : A) → n < end → Some x ≡ f n → first_from f (end - n) n ≡ first_from f end 0 → Some x ≡ first_from f end 0
-  first_hit end n x lt is inv = sym (first_on (end - n) n (omega arith) ∙ ap (λ (o : Option A). or_else o (first_from f (end - n - 1) (n + 1))) (sym is)) ∙ inv
-
-  pub first_miss : (end n : ℕ) → n < end → None ≡ f n → first_from f (end - n) n ≡ first_from f end 0 → first_from f (end - (n + 1)) (n + 1) ≡ first_from f end 0
-  first_miss end n lt is inv =
-      let q : end - (n + 1) ≡ end - n - 1 = omega arith in
-      ap (λ (k : ℕ). first_from f k (n + 1)) q ∙ sym (first_on (end - n) n (omega arith) ∙ ap (λ (o : Option A). or_else o (first_from f (end - n - 1) (n + 1))) (sym is)) ∙ inv
-
   pub first_end : (left n : ℕ) → left ≡ 0 → first_from f left n ≡ None
   unfolding first_from
   first_end left n q = rw q refl
-
-  pub first_none : (end n : ℕ) → end ≤ n → first_from f (end - n) n ≡ first_from f end 0 → None ≡ first_from f end 0
-  first_none end n ge inv = sym (first_end (end - n) n (omega arith)) ∙ inv

@@ -31,13 +31,7 @@ fn whom_at(keeper: &Keeper, engine: Engine, place: u8) -> Option<Option<Engine>>
 fn whom_in(keeper: &Keeper, engine: Engine) -> Option<Option<Engine>>
     ensures { result ≡ whom_in (model_of keeper.now).table engine.0 }
 {
-    // Places are numbers, and not what a list has; what `find_map` says of a run of numbers got no proof of the first that answers.
-    for place in 0..PLACES {
-        if let Some(holder) = whom_at(keeper, engine, place) {
-            return Some(holder);
-        }
-    }
-    None
+    (0..PLACES).find_map(|place| whom_at(keeper, engine, place))
 }
 
 fn whom_by(world: &World, engine: Engine, number: BoxNumber) -> Option<Option<Engine>>
@@ -50,14 +44,7 @@ fn whom_by(world: &World, engine: Engine, number: BoxNumber) -> Option<Option<En
 fn whom(world: &World, engine: Engine) -> Option<Option<Engine>>
     ensures { result ≡ whom_of (world_of world.now) engine }
 {
-    // As above, over the boxes' numbers.
-    let boxes = world.yard().boxes;
-    for number in 0..boxes {
-        if let Some(holder) = whom_by(world, engine, BoxNumber(number)) {
-            return Some(holder);
-        }
-    }
-    None
+    (0..world.yard().boxes).find_map(|number| whom_by(world, engine, BoxNumber(number)))
 }
 
 // Who waits for whom by the queues of all boxes.
