@@ -62,6 +62,7 @@ fn read_call(verb: Verb, text: &[u8]) -> Option<Call>
 fn command(line: &[u8]) -> Option<Call>
     ensures { result ≡ command_of line.now }
 {
+    // One word has a blank inside, so a `match` on what stands before the first blank is no plainer.
     if let Some(text) = after(line, b"take ") {
         read_call(Verb::Take, text)
     } else if let Some(text) = after(line, b"free ") {
