@@ -8,7 +8,7 @@ mod text;
 use anyhow::anyhow;
 use journal::Output;
 use keeper::Keeper;
-use messages::{BoxNumber, Engine, Holder, Section};
+use messages::{BoxNumber, Engine, Section};
 use script::Line;
 use sections::PLACES;
 use show::{EngineLine, SectionLine};
@@ -44,7 +44,7 @@ fn print_said<W: Write>(
 
 fn print_sections<W: Write>(out: &mut W, number: BoxNumber, keeper: &Keeper) -> io::Result<()> {
     for place in 0..PLACES {
-        if let Holder::Engine(holder) = keeper.holder(place) {
+        if let Some(holder) = keeper.holder(place) {
             let line = SectionLine {
                 section: Section {
                     keeper: number,

@@ -1,5 +1,5 @@
 // Which message is handled again and again.
-use messages::{Act, BoxNumber, Call, Engine, Holder, Message, Section};
+use messages::{Act, BoxNumber, Call, Change, Engine, Message, Section, Sign, Waits};
 use std::str::FromStr;
 
 pub const ONLY_BOX: BoxNumber = BoxNumber(0);
@@ -80,23 +80,23 @@ impl Kind {
                 engine: LAST,
                 section: WANTED,
             }),
-            Kind::Change => Some(Message::Change {
+            Kind::Change => Some(Message::Change(Change {
                 section: WANTED,
-                holder: Holder::Engine(FIRST),
+                holder: Some(FIRST),
                 change: 1,
-            }),
-            Kind::Waits => Some(Message::Waits {
+            })),
+            Kind::Waits => Some(Message::Waits(Waits {
                 engine: LAST,
                 section: WANTED,
                 count: 1,
                 change: 1,
-            }),
-            Kind::Heard => Some(Message::Sign {
+            })),
+            Kind::Heard => Some(Message::Sign(Sign {
                 to: LAST,
                 count: 1,
                 by: FIRST,
                 sign: 1000 + u64::from(turn),
-            }),
+            })),
             Kind::Second => None,
         }
     }
