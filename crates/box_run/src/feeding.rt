@@ -11,6 +11,8 @@ use boxes::{Input, SignalBox};
 use journal::{Effects, Fault, Output};
 use lines::{Line, read};
 
+// The box and its effects are lent by two owners, and each clause speaks of both: a struct of the two `&mut` would say no less.
+
 // What a line says, done.
 fn obey(state: &mut SignalBox, line: Line, effects: &mut Effects) -> Result<(), Fault>
     ensures { OnOk result ((state_of state.new, log_of effects.new) ≡ done (state_of state.old) (Ok (said_of line)) (log_of effects.old)) }

@@ -9,7 +9,7 @@ ghost use Rattle.messages.specs.Journal.{written};
 use crate::fault::Fault;
 use crate::file::File;
 use messages::{Record, Replay, Unread, Yard, read_records};
-use std::alloc::{AllocError, AllocFailed, Global};
+use std::alloc::{AllocFailed, Global};
 
 #[derive(Clone, Copy, PartialEq, Eq, Debug)]
 pub enum OpenFault {
@@ -23,14 +23,6 @@ impl From<Fault> for OpenFault {
 
     fn from(fault: Fault) -> OpenFault {
         OpenFault::Fault(fault)
-    }
-}
-
-impl From<AllocError> for OpenFault {
-    ghost from_gives = { λ _ e. e ≡ fault.Fault file_fault.Memory };
-
-    fn from(error: AllocError) -> OpenFault {
-        OpenFault::from(Fault::from(error))
     }
 }
 

@@ -39,8 +39,7 @@ fn which(rt: &HostRuntime) -> Result<Which, Ending> {
 fn say(rt: &HostRuntime, own: BoxNumber, said: &Said) -> Result<(), Ending> {
     let text = print(own, said.as_slice(), rt.alloc())?;
     let mut out = rt.stdout();
-    out.write_all(text.as_slice())
-        .map_err(|_| Ending::Output)?;
+    out.write_all(text.as_slice()).map_err(|_| Ending::Output)?;
     out.flush().map_err(|_| Ending::Output)
 }
 
