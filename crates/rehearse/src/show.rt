@@ -24,9 +24,8 @@ impl fmt::Display for SectionLine<'_> {
             Spot(self.section),
             self.holder.0
         )?;
-        let places = 0..self.keeper.queue_length(place);
-        for waiter in places.filter_map(|i| self.keeper.waiter(place, i)) {
-            write!(f, " {}", waiter.0)?;
+        for waiter in self.keeper.waiters(place) {
+            write!(f, " {waiter}")?;
         }
         Ok(())
     }
