@@ -3,16 +3,19 @@ use Rattle.std.proofs.Common.{◌≡◌, ℕ, suc, ◌+◌, ◌*◌, ◌/◌, �
 use Rattle.std.proofs.lemmas.Bool.Decides.{nat_tests}
 use Rattle.messages.specs.Promises.{Bytes}
 use Rattle.messages.proofs.Back.{engine_back, section_back}
-use Rattle.lines.proofs.Steps.{decimal_two}
 use Rattle.std.proofs.lemmas.Bool.{and_from, cases_lt, eq-eqb, lt-ltb, le-leb}
 use Rattle.messages.specs.declared.yard.BoxNumber.{BoxNumber}
 use Rattle.messages.specs.declared.yard.Yard.{Yard}
-use Rattle.messages.specs.Reading.{box_of, engine_of, section_of, unless}
+use Rattle.messages.specs.Reading.{box_of, unless}
 use Rattle.messages.specs.Range.{EngineIn, SectionIn}
 use Rattle.messages.specs.declared.yard.Engine.{Engine}
 use Rattle.messages.specs.declared.yard.Section.{Section}
 use Rattle.lines.specs.Digits.{bytes_in, decimal, digit_of, hex_digit, hex_of, hex_value, next_of, number_of}
 use Rattle.lines.specs.Lines.{DriverRead, ReadsBack, free_line, is_at, is_free, is_second, is_take, line_of, message, message_in, message_line, place_of, sent_of, take_line, wish_of, wish_text}
+
+-- a number of two digits
+decimal_two : (n : ℕ) → 10 ≤ n → decimal n ≡ (48 + n / 10) ∷ (48 + n % 10) ∷ []
+decimal_two n h = grind (arith, nat_tests)
 
 pub digit_back : (n : ℕ) → n < 16 → hex_value (hex_digit n) ≡ Some n
 digit_back n h = grind (arith, nat_tests)

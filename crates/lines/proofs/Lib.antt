@@ -1,5 +1,5 @@
-pub mod Steps
 pub mod Words
+pub mod Pairs
 pub mod Back
 pub mod Capitals
 pub mod Fits

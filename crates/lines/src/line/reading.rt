@@ -81,16 +81,15 @@ fn past(c: u8, at: usize, text: &[u8]) -> Option<&[u8]>
 fn message(text: &[u8]) -> Option<Buffer>
     ensures { held result ≡ message_in text.now }
 {
-    if text.len() > 42 {
+    let (pairs, odd) = text.as_chunks::<2>();
+    if pairs.len() > 21 || !odd.is_empty() {
         return None;
     }
     let mut out = Buffer::empty();
-    let mut rest = text;
-    while let [high, low, end @ ..] = rest {
-        let h = hex_value(*high)?;
-        let l = hex_value(*low)?;
-        out = out.byte(h * 16 + l);
-        rest = end;
+    for [high, low] in pairs {
+        let high = hex_value(*high)?;
+        let low = hex_value(*low)?;
+        out = out.byte(high * 16 + low);
     }
-    if rest.is_empty() { Some(out) } else { None }
+    Some(out)
 }

@@ -1,20 +1,37 @@
-use Rattle.std.proofs.Common.{◌≤◌, length, arith, rules}
-use Rattle.std.proofs.lemmas.Bool.Decides.{nat_tests}
-use Rattle.lines.specs.Written.{bytes_of}
-use Rattle.lines.proofs.Steps.{bytes_start, bytes_step, rest_room}
+use Rattle.std.proofs.Common.{◌≡◌, ◌/◌, ◌%◌, ◌≤◌, length, sym, ap, ◌∙◌, arith, rules}
+use Rattle.lines.specs.Lines.{message_in}
+use Rattle.lines.specs.Written.{bytes_of, held}
+use Rattle.lines.proofs.Pairs.{all_read, in_pairs, none_high, none_long, none_low, none_odd, paired}
+use Rattle.lines.proofs.line.reading.message.Goals.{then-pairs-gt21-via-then-pairs-gt21, then-pairs-gt21-via-else-pairs-gt21+then-not-is_empty}
 use Rattle.lines.proofs.line.reading.message.Goals as goal
 
-pub returns-then-text-gt42 : goal.returns-then-text-gt42
-returns-then-text-gt42 c = grind (arith, nat_tests)
+pub returns-then-pairs-gt21 : goal.returns-then-pairs-gt21
+returns-then-pairs-gt21 c =
+    elim c.then-pairs-gt21.branch [
+      | then-pairs-gt21-via-then-pairs-gt21 w ↦ sym (none_long c.args.text.now (omega (arith, c.as_chunks.ensures.front_len, w.if-pairs-gt21)))
+      | then-pairs-gt21-via-else-pairs-gt21+then-not-is_empty w ↦
+          let more : length c.args.text.now % 2 ≡ 1 = search rules in sym (none_odd c.args.text.now more)
+    ]
 
-pub loop-rest-init : goal.loop-rest-init
-loop-rest-init c = (bytes_start _ _ c.empty-out.ensures.bytes, omega arith)
+pub returns-in_err-high : goal.returns-in_err-high
+returns-in_err-high c =
+    let even : length c.args.text.now % 2 ≡ 0 = search rules in
+    let fits : length c.args.text.now / 2 ≤ 21 = search rules in
+    let is : paired c.as_chunks.result.0.now ≡ message_in c.args.text.now = ap paired c.as_chunks.ensures.front ∙ in_pairs c.args.text.now even fits in
+    ap held c.from_residual.ensures
+    ∙ (none_high (bytes_of c.loop-high.out) c.as_chunks.result.0.now _ c.loop-high.high-index _ c.loop-high-test.true c.loop-high.invariant.0 c.in_err-high.ensures.value ∙ is)
 
-pub loop-rest-preserved : goal.loop-rest-preserved
-loop-rest-preserved c =
-    let xs = c.loop-rest.rest.now in
-    let two : 2 ≤ length c.loop-rest.rest.now = search rules in (
-      bytes_step (bytes_of c.loop-rest.out) xs _ c.in_ok-h.h c.in_ok-l.l two c.loop-rest.invariant.0
-          c.in_ok-h.ensures.value c.in_ok-l.ensures.value c.byte-out.ensures.bytes,
-      rest_room xs _ _ two c.byte-out.ensures.used c.loop-rest.invariant.1,
-    )
+pub returns-in_err-low : goal.returns-in_err-low
+returns-in_err-low c =
+    let even : length c.args.text.now % 2 ≡ 0 = search rules in
+    let fits : length c.args.text.now / 2 ≤ 21 = search rules in
+    let is : paired c.as_chunks.result.0.now ≡ message_in c.args.text.now = ap paired c.as_chunks.ensures.front ∙ in_pairs c.args.text.now even fits in
+    ap held c.from_residual-in_err-low.ensures
+    ∙ (none_low (bytes_of c.loop-high.out) c.as_chunks.result.0.now _ c.loop-high.high-index _ c.loop-high-test.true c.loop-high.invariant.0 c.in_err-low.ensures.value ∙ is)
+
+pub returns : goal.returns
+returns c =
+    let even : length c.args.text.now % 2 ≡ 0 = search rules in
+    let fits : length c.args.text.now / 2 ≤ 21 = search rules in
+    let is : paired c.as_chunks.result.0.now ≡ message_in c.args.text.now = ap paired c.as_chunks.ensures.front ∙ in_pairs c.args.text.now even fits in
+    all_read (bytes_of c.loop-high.out) c.as_chunks.result.0.now _ c.loop-high.high-index c.loop-high-test.false c.loop-high.invariant.0 ∙ is
