@@ -1,10 +1,10 @@
 -- How many bytes the first records take, and that records stored after some that are all there leave those there.
-use Rattle.std.proofs.Common.{◌≡◌, ℕ, zero, suc, ◌+◌, ◌<◌, ◌≤◌, true, false, cond, List, [], ◌∷◌, ◌++◌, length, get_or, take, Ok, Err, Result, refl, ap, ◌∙◌, subst, append-nil, arith, length-append, MatchResult}
-use Rattle.std.proofs.lemmas.List.{take_more, take_all}
+use Rattle.std.proofs.Common.{◌≡◌, ℕ, zero, suc, ◌+◌, ◌≤◌, min, true, false, cond, List, [], ◌∷◌, ◌++◌, length, take, sum_by, Ok, Err, Result, sym, refl, ap, ◌∙◌, subst, append-nil, arith, length-append, MatchResult}
+use Rattle.std.proofs.lemmas.List.{take_all, take_min}
+use Rattle.std.proofs.lemmas.List.Sums.{sum_by-cons}
 use Rattle.messages.specs.declared.message.Record.{Record}
 use Rattle.messages.specs.Journal.{written}
 use Rattle.messages.specs.Table.{record_bytes}
-use Rattle.journal.proofs.Storing.{written_more}
 use Rattle.journal.specs.Storage.{Remains}
 use Rattle.journal.specs.declared.output.Output.TheVariants as output
 use Rattle.home.specs.declared.home.Home.{Home}
@@ -12,14 +12,15 @@ use Rattle.home.specs.Queries.{engine, giving_back_at}
 use Rattle.boxes.specs.Handle.{reminder_for, reminders_of}
 use Rattle.boxes.specs.Log.{Log, each, none, said}
 
--- one record more
-one_more : (rs : List Record) (i : ℕ) (d : Record) → i < length rs → length (written (take (i + 1) rs)) ≡ length (written (take i rs)) + length (record_bytes (get_or rs i d))
-one_more rs i d l = ap (λ (qs : List Record). length (written qs)) (take_more rs i d l)
-    ∙ (ap length (written_more (take i rs) (get_or rs i d)) ∙ length-append (written (take i rs)) (record_bytes (get_or rs i d)))
+-- the bytes of records are those of each
+each_counted : (rs : List Record) → sum_by (λ r. length (record_bytes r)) rs ≡ length (written rs)
+each_counted [] = refl
+each_counted (r ∷ rs) =
+    sum_by-cons (λ q. length (record_bytes q)) r rs ∙ (ap (λ n. length (record_bytes r) + n) (each_counted rs) ∙ sym (length-append (record_bytes r) (written rs)))
 
-pub one_further : (rs : List Record) (i : ℕ) (d : Record) (at : ℕ) (bytes : List ℕ) → i < length rs → at ≡ length (written (take i rs)) → bytes ≡ record_bytes (get_or rs i d)
-    → at + length bytes ≡ length (written (take (i + 1) rs))
-one_further rs i d at bytes l e b = let size = ap length b in let more = one_more rs i d l in omega arith
+-- the bytes of the first records, be there so many or not
+pub first_counted : (rs : List Record) (i k : ℕ) → k ≡ min i (length rs) → sum_by (λ r. length (record_bytes r)) (take k rs) ≡ length (written (take i rs))
+first_counted rs i k e = each_counted (take k rs) ∙ ap (λ qs. length (written qs)) (ap (λ n. take n rs) e ∙ take_min i rs)
 
 -- the first records take no more bytes than all
 pub at_most_all : (rs : List Record) (i : ℕ) → length (written (take i rs)) ≤ length (written rs)

@@ -1,5 +1,5 @@
 -- The lines that a box prints. Assumes nothing.
-use Rattle.std.specs.Prelude.{ℕ, ◌+◌, ◌/◌, ◌%◌, Bool, false, cond, List, [], ◌∷◌, ◌++◌, Some, None, codes, Option, ◌==◌, nat_lt}
+use Rattle.std.specs.Prelude.{ℕ, Bool, false, cond, List, [], ◌∷◌, ◌++◌, Some, None, codes, decimal, Option, ◌==◌}
 use Rattle.messages.specs.declared.yard.BoxNumber.{BoxNumber}
 use Rattle.messages.specs.declared.yard.Section.{Section}
 use Rattle.messages.specs.Table as wire
@@ -10,8 +10,7 @@ use Rattle.journal.specs.declared.output.Output.TheVariants as output
 
 -- a number of one byte in decimal
 abbrev pub digits : ℕ → List ℕ
-digits n = cond (nat_lt n 10) ((48 + n) ∷ [])
-    (cond (nat_lt n 100) ((48 + n / 10) ∷ (48 + n % 10) ∷ []) ((48 + n / 100) ∷ (48 + n / 10 % 10) ∷ (48 + n % 10) ∷ []))
+digits n = decimal n
 
 -- a section: its box, a colon, and its place
 abbrev pub section_text : Section → List ℕ

@@ -1,5 +1,5 @@
 // Lines, one after another.
-ghost use Rattle.std.specs.Prelude.{◌≡◌, ℕ, ◌+◌, ◌<◌, ◌≤◌, length, drop, Ok, OnOk, ◌≢◌, slice_index};
+ghost use Rattle.std.specs.Prelude.{◌≡◌, ◌<◌, ◌==◌, [], ◌∷◌, length, position, Ok, IfNone, IfSome, OnOk};
 ghost use Rattle.lines.specs.Lines.{said_of};
 ghost use Rattle.boxes.specs.Log.{log_of};
 ghost use Rattle.boxes.specs.Model.{state_of};
@@ -42,28 +42,23 @@ fn feed(state: &mut SignalBox, line: &[u8], effects: &mut Effects) -> Result<(),
     settle(state, before, effects)
 }
 
-// Where a text's first newline is; its length, if nowhere.
-fn line_end(text: &[u8]) -> usize
-    ensures within { result ≤ length text.now }
-    ensures before { (k : ℕ) → k < result → slice_index text.now k ≢ 10 }
-    ensures found { result < length text.now → slice_index text.now result ≡ 10 }
+// Where a text's first newline is.
+fn line_end(text: &[u8]) -> Option<usize>
+    ensures { result ≡ position (λ b. b == 10) text.now }
 {
-    for (i, byte) in text.iter().enumerate() {
-        if *byte == b'\n' {
-            return i;
-        }
-    }
-    text.len()
+    text.iter().position(|byte| *byte == b'\n')
 }
 
-// What follows the newline at a place.
-fn after_line(text: &[u8], end: usize) -> &[u8]
-    ensures { result.now ≡ drop (end + 1) text.now }
+// A text's first line, and what follows its newline; no line, where there is no text.
+fn first_line(text: &[u8]) -> Option<(&[u8], &[u8])>
+    ensures none { IfNone result (lines_in text.now ≡ []) }
+    ensures line { IfSome result (λ (line, rest). lines_in text.now ≡ line.now ∷ lines_in rest.now) }
+    ensures less { IfSome result (λ (line, rest). length rest.now < length text.now) }
 {
-    if end < text.len() {
-        &text[end + 1..]
-    } else {
-        &[]
+    match line_end(text) {
+        Some(end) => Some((&text[..end], &text[end + 1..])),
+        None if text.is_empty() => None,
+        None => Some((text, &[])),
     }
 }
 
@@ -76,10 +71,9 @@ pub(crate) fn feed_all(
     ensures { OnOk result (FedEach (lines_in text.now) (state_of state.old, log_of effects.old) (state_of state.new, log_of effects.new)) }
 {
     let mut rest = text;
-    while !rest.is_empty() {
-        let end = line_end(rest);
-        feed(state, &rest[..end], effects)?;
-        rest = after_line(rest, end);
+    while let Some((line, after)) = first_line(rest) {
+        feed(state, line, effects)?;
+        rest = after;
     }
     Ok(())
 }

@@ -30,6 +30,7 @@ pub(crate) fn settle(state: &mut SignalBox, from: usize, effects: &mut Effects) 
 {
     let own = state.home().number();
     let mut at = from;
+    // Outputs are added while these are gone through, so no iterator goes over them.
     while at < effects.said_so_far() {
         handle_own(state, own, at, effects)?;
         at += 1;
@@ -38,8 +39,6 @@ pub(crate) fn settle(state: &mut SignalBox, from: usize, effects: &mut Effects) 
 }
 
 // What comes of it is pinned.
-pub fn settles_one_way() -> u8
+pub fn settles_one_way()
     ensures { SettlesOneWay }
-{
-    0
-}
+{}

@@ -18,12 +18,5 @@ pub fn serve<F: File>(
     ensures serves { Serves (lines_in text.now) (state_of state.old) (state_of state.new) (F.File.holds file.old) (F.File.holds file.new) result }
     ensures settled { F.File.settled file.old → OnOk result (F.File.settled file.new) }
 {
-    let mut effects = Effects::new(heap);
-    match feed_all(state, text, &mut effects) {
-        Ok(()) => effects.commit(file),
-        Err(fault) => {
-            effects.abandon();
-            Err(fault)
-        }
-    }
+    Effects::gather(heap, state, |state, effects| feed_all(state, text, effects))?.commit(file)
 }

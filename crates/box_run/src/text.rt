@@ -3,6 +3,7 @@ ghost use Rattle.std.specs.Prelude.{◌≡◌, ◌∷◌, ◌++◌, IfOk, codes,
 ghost use Rattle.std.specs.List.{flat_map};
 ghost use Rattle.box_run.specs.Text.{digits, is_own, line_for, numbered, printed, section_text};
 
+use itoa::Buffer;
 use journal::Output;
 use lines::write;
 use messages::{BoxNumber, Message, Section, encode};
@@ -11,13 +12,7 @@ use std::alloc::{AllocError, Global};
 fn add_number(text: &mut Vec<u8>, n: u8) -> Result<(), AllocError>
     ensures { OnOk result (text.new.items ≡ text.old.items ++ digits n) }
 {
-    if n < 10 {
-        text.extend_from_slice(&[b'0' + n])
-    } else if n < 100 {
-        text.extend_from_slice(&[b'0' + n / 10, b'0' + n % 10])
-    } else {
-        text.extend_from_slice(&[b'0' + n / 100, b'0' + n / 10 % 10, b'0' + n % 10])
-    }
+    text.extend_from_slice(Buffer::new().format(n).as_bytes())
 }
 
 fn add_section(text: &mut Vec<u8>, section: Section) -> Result<(), AllocError>
@@ -67,13 +62,7 @@ fn add_output(text: &mut Vec<u8>, output: Output) -> Result<(), AllocError>
 fn is_own(own: BoxNumber, output: Output) -> bool
     ensures { result ≡ is_own own output }
 {
-    match output {
-        Output::Send { to, message: _ } => to.0 == own.0,
-        Output::Had { .. }
-        | Output::GiveBack { .. }
-        | Output::GivingBack { .. }
-        | Output::Refused(_) => false,
-    }
+    matches!(output, Output::Send { to, .. } if to == own)
 }
 
 fn add_line(text: &mut Vec<u8>, own: BoxNumber, output: Output) -> Result<(), AllocError>

@@ -8,16 +8,13 @@ pub fn whole_lines(text: &[u8]) -> usize
     ensures ended { 0 < result → slice_index text.now (result - 1) ≡ 10 }
     ensures after { (k : ℕ) → result ≤ k → k < length text.now → slice_index text.now k ≢ 10 }
 {
-    let mut end = text.len();
-    while end > 0 && text[end - 1] != b'\n' {
-        end -= 1;
+    match text.iter().rposition(|byte| *byte == b'\n') {
+        Some(last) => last + 1,
+        None => 0,
     }
-    end
 }
 
 // A text that is cut behind a newline has the same lines.
-pub fn cut_at_a_newline() -> u8
+pub fn cut_at_a_newline()
     ensures { CutAtANewline }
-{
-    0
-}
+{}

@@ -138,7 +138,7 @@ impl State {
     }
 
     // Is it a later change of the section that is waited for.
-    fn is_later(self, change: Change) -> bool
+    pub fn is_later(self, change: Change) -> bool
         ensures { result ≡ is_later (wait_of self) change.section change.change }
     {
         self.wait().is_some_and(|wait| wait.section == change.section

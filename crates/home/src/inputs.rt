@@ -113,8 +113,7 @@ impl Home {
     fn awaits(&self, engine: Engine, change: Change) -> bool
         ensures { result ≡ is_later (wait_at self.now engine) change.section change.change }
     {
-        self.wait(engine).is_some_and(|wait| wait.section == change.section
-            && wait.change < change.change)
+        self.state(engine).is_ok_and(|state| state.is_later(change))
     }
 
     // A section has passed on, by that change: what one of ours makes of it.

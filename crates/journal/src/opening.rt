@@ -77,6 +77,7 @@ pub fn open<F: File>(file: &mut F, yard: Yard, heap: Global) -> Result<Vec<Recor
     ensures leaves { (xs : List ℕ) (n : ℕ) → F.File.holds file.old xs n → Leaves yard xs n (F.File.holds file.new) result }
     ensures settled { OnOk result (F.File.settled file.new) }
 {
+    // A rule of this repository: what the reader answers is taken apart where it stands.
     let answer = read_back(file, yard, heap);
     let Ok(Replay { records, length }) = answer else {
         return Err(answer.unwrap_err());

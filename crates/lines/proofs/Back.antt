@@ -2,6 +2,7 @@
 use Rattle.std.proofs.Common.{◌≡◌, ℕ, suc, ◌+◌, ◌*◌, ◌/◌, ◌%◌, ◌<◌, ◌≤◌, Bool, true, false, eqb, leb, List, [], ◌∷◌, ◌++◌, length, get_or, drop, Some, None, Option, sym, refl, ap, ◌∙◌, subst, inl, inr, append-nil, add-one, arith, length-append}
 use Rattle.std.proofs.lemmas.Bool.Decides.{nat_tests}
 use Rattle.messages.specs.Promises.{Bytes}
+use Rattle.messages.proofs.Back.{engine_back, section_back}
 use Rattle.lines.proofs.Steps.{decimal_two}
 use Rattle.std.proofs.lemmas.Bool.{and_from, cases_lt, eq-eqb, lt-ltb, le-leb}
 use Rattle.messages.specs.declared.yard.BoxNumber.{BoxNumber}
@@ -106,12 +107,6 @@ reads_back y b bs h k n =
     no_word y (message_line b bs) (first_digit b.0 (32 ∷ hex_of bs) w)
     ∙ sent_back y b bs (message_line b bs) (length (decimal b.0)) (number_back b.0 (32 ∷ hex_of bs) w refl) (at_seam 32 (decimal b.0) (hex_of bs))
     (drop_seam 32 (decimal b.0) (hex_of bs)) h k n
-
-section_back : (y : Yard) (s : Section) → SectionIn y s → section_of y s.keeper.0 s.place ≡ Some s
-section_back y s h = ap (λ (t : Bool). unless t (Some s)) (and_from _ _ (lt-ltb s.keeper.0 y.boxes h.0) (lt-ltb s.place 64 h.1))
-
-engine_back : (y : Yard) (e : Engine) → EngineIn y e → engine_of y e.0 ≡ Some e
-engine_back y e h = ap (λ (t : Bool). unless t (Some e)) (lt-ltb e.0 y.engines h)
 
 place_made : (y : Yard) (s : Section) (xs t : List ℕ) (w v : ℕ) → number_of xs ≡ Some (record { value = s.keeper.0; width = w }) → is_at 58 w xs ≡ true
     → drop (w + 1) xs ≡ t → number_of t ≡ Some (record { value = s.place; width = v }) → eqb v (length t) ≡ true → SectionIn y s → place_of y xs ≡ Some s

@@ -1,4 +1,5 @@
 pub mod Steps
+pub mod Words
 pub mod Back
 pub mod Capitals
 pub mod Fits

@@ -1,23 +1,15 @@
 // What a line says, and the bytes of one.
-ghost use Rattle.std.specs.Prelude.{◌≤◌};
-
-pub mod appending;
 pub mod digits;
 pub mod reading;
 pub mod writing;
 
-use messages::{BoxNumber, Engine, Section};
+use messages::{BoxNumber, Bytes, Engine, Section};
 
 // The longest line: a number of two digits, a blank, and two digits for each of 21 bytes.
 pub const WIDEST: usize = 45;
 
-// The bytes of a line or of a message, in place.
-#[derive(Clone, Copy)]
-pub struct Buffer {
-    bytes: [u8; WIDEST],
-    used: usize,
-    ghost fits: { used ≤ 45 },
-}
+// The bytes of a line or of a message.
+pub type Buffer = Bytes<WIDEST>;
 
 #[derive(Clone, Copy)]
 pub enum Line {

@@ -15,30 +15,12 @@ fn numbers(heap: Global, text: &str) -> anyhow::Result<Vec<u8>> {
     Ok(row)
 }
 
-// How many proper first parts of `bytes` are no message.
-fn cuts_refused(yard: Yard, bytes: &[u8]) -> usize
+// How many proper first parts of `bytes` pass a test.
+fn cuts<F: Fn(&[u8]) -> bool>(bytes: &[u8], test: F) -> usize
+    requires { F.IsAlwaysCallable test }
     ensures { result ≤ length bytes.now }
 {
-    let mut refused = 0usize;
-    for cut in 0..bytes.len() {
-        if decode(yard, &bytes[..cut]).is_err() {
-            refused += 1;
-        }
-    }
-    refused
-}
-
-// How many proper first parts of `bytes` are the beginning of a record.
-fn cuts_short(yard: Yard, bytes: &[u8]) -> usize
-    ensures { result ≤ length bytes.now }
-{
-    let mut short = 0usize;
-    for cut in 0..bytes.len() {
-        if let First::Cut = first_record(yard, &bytes[..cut]) {
-            short += 1;
-        }
-    }
-    short
+    (0..bytes.len()).filter(|cut| test(&bytes[..*cut])).count()
 }
 
 fn say_message(rt: &HostRuntime, yard: Yard, bytes: &[u8]) -> anyhow::Result<()> {
@@ -46,7 +28,7 @@ fn say_message(rt: &HostRuntime, yard: Yard, bytes: &[u8]) -> anyhow::Result<()>
         Ok(message) => {
             let again = encode(message);
             let same = again.as_slice() == bytes;
-            let refused = cuts_refused(yard, bytes);
+            let refused = cuts(bytes, |front| decode(yard, front).is_err());
             println!(rt; "message: the same again {same}, cuts refused {refused}")?;
         }
         Err(refusal) => {
@@ -65,7 +47,7 @@ fn say_record(rt: &HostRuntime, yard: Yard, bytes: &[u8]) -> anyhow::Result<()> 
         } => {
             let again = encode_record(record);
             let same = again.as_slice() == bytes;
-            let short = cuts_short(yard, bytes);
+            let short = cuts(bytes, |front| first_record(yard, front) == First::Cut);
             println!(rt; "record: of {taken} bytes, the same again {same}, cuts short {short}")?;
         }
         First::Cut => println!(rt; "record: cut")?,

@@ -1,7 +1,8 @@
 -- How long a record is stands in its first byte, so what stands first in a file is decided by its length alone.
-use Rattle.std.proofs.Common.{◌≡◌, ℕ, zero, suc, ◌+◌, ◌-◌, ◌<◌, ◌≤◌, List, [], ◌∷◌, ◌++◌, length, get_or, take, drop, Some, None, Option, sym, refl, ap, ◌∙◌, subst, arith, lit<, length-append, length-drop, take-append-drop, length-take-le, take_all, drop-drop, MatchOption}
+use Rattle.std.proofs.Common.{◌≡◌, ℕ, zero, suc, ◌+◌, ◌-◌, ◌<◌, ◌≤◌, List, [], ◌∷◌, ◌++◌, length, get_or, take, drop, Some, None, Option, sym, refl, ap, ◌∙◌, subst, arith, lit<, append-nil, append_assoc, length-append, length-drop, take-append-drop, length-take-le, take_all, drop-drop, MatchOption}
 use lib.Seq.{take-append-le, take-length}
 use Rattle.std.proofs.lemmas.List.Prefix.{front_rest}
+use Rattle.std.proofs.lemmas.Option.{none-some, same_Some}
 use Rattle.messages.specs.declared.yard.Yard.{Yard}
 use Rattle.messages.specs.declared.message.Act.{Act}
 use Rattle.messages.specs.declared.message.Act.TheVariants as act
@@ -13,7 +14,6 @@ use Rattle.messages.specs.Journal.{AllIn, CutIsShort, FirstIs, Holds, OneList, S
 use Rattle.messages.specs.Promises.{Bytes}
 use Rattle.messages.specs.Range.{RecordIn}
 use Rattle.messages.specs.Table.{act_byte, record_bytes}
-use Rattle.messages.proofs.Forms.{clash, some}
 use Rattle.messages.proofs.Journal.{record_back, record_form}
 
 act_size : (a : Act) → size_of (act_byte a) ≡ Some 8
@@ -56,10 +56,6 @@ get_d_front : (xs ys : List ℕ) → 1 ≤ length xs → get_or (xs ++ ys) 0 0 �
 get_d_front [] ys h = absurd (omega arith)
 get_d_front (x ∷ xs) ys h = refl
 
-append_nil : (xs : List ℕ) → xs ++ [] ≡ xs
-append_nil [] = refl
-append_nil (x ∷ xs) = ap (λ (l : List ℕ). x ∷ l) (append_nil xs)
-
 more_than : (xs : List ℕ) → (xs ≡ [] → ⊥) → 1 ≤ length xs
 more_than [] h = absurd (h refl)
 more_than (x ∷ xs) h = omega arith
@@ -68,7 +64,7 @@ pub cut_is_short : CutIsShort
 cut_is_short r [] rest is more = tt
 cut_is_short r (k ∷ front) rest is more =
     let s = size_is r [] in
-    let e : size_of k ≡ Some (length (record_bytes r)) = ap (λ (l : List ℕ). size_of (get_or l 0 0)) (is ∙ sym (append_nil (record_bytes r))) ∙ s in
+    let e : size_of k ≡ Some (length (record_bytes r)) = ap (λ (l : List ℕ). size_of (get_or l 0 0)) (is ∙ sym (append-nil (record_bytes r))) ∙ s in
     let l = length-append (k ∷ front) rest in
     let w = ap length is in
     let m = more_than rest more in
@@ -85,23 +81,19 @@ apart a b c d l is = (
 pub same_first : (y : Yard) (r q : Record) (c d : List ℕ) → RecordIn y r → RecordIn y q → record_bytes r ++ c ≡ record_bytes q ++ d → (r ≡ q) × (c ≡ d)
 same_first y r q c d i j is =
     let l : length (record_bytes r) ≡ length (record_bytes q)
-    = some _ _ (sym (size_is r c) ∙ (ap (λ (l : List ℕ). size_of (get_or l 0 0)) is ∙ size_is q d)) in
+    = same_Some _ _ (sym (size_is r c) ∙ (ap (λ (l : List ℕ). size_of (get_or l 0 0)) is ∙ size_is q d)) in
     let e = apart (record_bytes r) (record_bytes q) c d l is in
-    (some r q (sym (record_back y r i) ∙ (ap (record_of y) e.0 ∙ record_back y q j)), e.1)
-
-joined : (a b t : List ℕ) → (a ++ b) ++ t ≡ a ++ (b ++ t)
-joined [] b t = refl
-joined (x ∷ a) b t = ap (λ (l : List ℕ). x ∷ l) (joined a b t)
+    (same_Some r q (sym (record_back y r i) ∙ (ap (record_of y) e.0 ∙ record_back y q j)), e.1)
 
 -- two lists of records that begin the same bytes, each with what follows it
 one_by_one : (y : Yard) (rs qs : List Record) (t u : List ℕ) → AllIn y rs → AllIn y qs → written rs ++ t ≡ written qs ++ u → Short t → Short u → (rs ≡ qs) × (t ≡ u)
 one_by_one y [] [] t u i j is s v = (refl, is)
 one_by_one y [] (q ∷ qs) t u i j is s v =
-    let P : List ℕ → Type 0 = Short in absurd (long_not_short q (written qs ++ u) (subst P (is ∙ joined (record_bytes q) (written qs) u) s))
+    let P : List ℕ → Type 0 = Short in absurd (long_not_short q (written qs ++ u) (subst P (is ∙ append_assoc (record_bytes q) (written qs) u) s))
 one_by_one y (r ∷ rs) [] t u i j is s v =
-    let P : List ℕ → Type 0 = Short in absurd (long_not_short r (written rs ++ t) (subst P (sym is ∙ joined (record_bytes r) (written rs) t) v))
+    let P : List ℕ → Type 0 = Short in absurd (long_not_short r (written rs ++ t) (subst P (sym is ∙ append_assoc (record_bytes r) (written rs) t) v))
 one_by_one y (r ∷ rs) (q ∷ qs) t u i j is s v =
-    let e = same_first y r q (written rs ++ t) (written qs ++ u) i.0 j.0 (sym (joined (record_bytes r) (written rs) t) ∙ (is ∙ joined (record_bytes q) (written qs) u)) in
+    let e = same_first y r q (written rs ++ t) (written qs ++ u) i.0 j.0 (sym (append_assoc (record_bytes r) (written rs) t) ∙ (is ∙ append_assoc (record_bytes q) (written qs) u)) in
     let f = one_by_one y rs qs t u i.1 j.1 e.1 s v in
     (let a = e.0 in let b = f.0 in cc, f.1)
 
@@ -111,11 +103,11 @@ one_list y xs rs qs t u h k = one_by_one y rs qs t u h.0 k.0 (h.1 ∙ sym k.1) h
 -- after whole records something that is neither a record nor short: no list of records is there
 pub none_there : (y : Yard) (rs qs : List Record) (t u : List ℕ) → AllIn y rs → AllIn y qs → written rs ++ t ≡ written qs ++ u → FirstIs y t first.Damaged → Short u → ⊥
 none_there y [] [] t u i j is d s = let P : List ℕ → Type 0 = Short in d.0 (subst P (sym is) s)
-none_there y [] (q ∷ qs) t u i j is d s = d.1 q (written qs ++ u) j.0 (sym (is ∙ joined (record_bytes q) (written qs) u))
+none_there y [] (q ∷ qs) t u i j is d s = d.1 q (written qs ++ u) j.0 (sym (is ∙ append_assoc (record_bytes q) (written qs) u))
 none_there y (r ∷ rs) [] t u i j is d s =
-    let P : List ℕ → Type 0 = Short in long_not_short r (written rs ++ t) (subst P (sym is ∙ joined (record_bytes r) (written rs) t) s)
+    let P : List ℕ → Type 0 = Short in long_not_short r (written rs ++ t) (subst P (sym is ∙ append_assoc (record_bytes r) (written rs) t) s)
 none_there y (r ∷ rs) (q ∷ qs) t u i j is d s =
-    let e = same_first y r q (written rs ++ t) (written qs ++ u) i.0 j.0 (sym (joined (record_bytes r) (written rs) t) ∙ (is ∙ joined (record_bytes q) (written qs) u)) in
+    let e = same_first y r q (written rs ++ t) (written qs ++ u) i.0 j.0 (sym (append_assoc (record_bytes r) (written rs) t) ∙ (is ∙ append_assoc (record_bytes q) (written qs) u)) in
     none_there y rs qs t u i.1 j.1 e.1 d s
 
 -- a first part of bytes is bytes
@@ -134,11 +126,11 @@ pub first_unknown : (y : Yard) (xs : List ℕ) → 1 ≤ length xs → size_of (
 first_unknown y xs long is = (
   unsized xs long is,
   λ r rest i e.
-      clash (length (record_bytes r)) (sym is ∙ (ap (λ (l : List ℕ). size_of (get_or l 0 0)) (sym e) ∙ size_is r rest)),
+      none-some (length (record_bytes r)) (sym is ∙ (ap (λ (l : List ℕ). size_of (get_or l 0 0)) (sym e) ∙ size_is r rest)),
 )
 
 known : (xs : List ℕ) (n : ℕ) → size_of (get_or xs 0 0) ≡ Some n → 1 ≤ length xs
-known [] n is = absurd (clash n is)
+known [] n is = absurd (none-some n is)
 known (x ∷ xs) n is = omega arith
 
 pub first_whole : (y : Yard) (xs : List ℕ) (n : ℕ) (r : Record) → Bytes xs → size_of (get_or xs 0 0) ≡ Some n → n ≤ length xs
@@ -152,14 +144,14 @@ pub first_wrong : (y : Yard) (xs : List ℕ) (n : ℕ) → size_of (get_or xs 0 
 first_wrong y xs n is fits none = (
   (λ s. let q = short_lt xs n (known xs n is) is s in omega arith),
   λ r rest i e.
-      let l : length (record_bytes r) ≡ n = some _ _ (sym (size_is r rest) ∙ (ap (λ (l : List ℕ). size_of (get_or l 0 0)) e ∙ is)) in
+      let l : length (record_bytes r) ≡ n = same_Some _ _ (sym (size_is r rest) ∙ (ap (λ (l : List ℕ). size_of (get_or l 0 0)) e ∙ is)) in
       let t : take n xs ≡ record_bytes r = sym (ap (λ (l : List ℕ). take n l) e) ∙ (ap (λ (m : ℕ). take m (record_bytes r ++ rest)) (sym l) ∙ (take-append-le (length (record_bytes r)) (record_bytes r) rest (omega arith) ∙ take-length (record_bytes r))) in
-      clash r (sym none ∙ (ap (record_of y) t ∙ record_back y r i)),
+      none-some r (sym none ∙ (ap (record_of y) t ∙ record_back y r i)),
 )
 
 written_push : (rs : List Record) (r : Record) → written (rs ++ (r ∷ [])) ≡ written rs ++ record_bytes r
-written_push [] r = append_nil (record_bytes r)
-written_push (q ∷ rs) r = ap (λ (l : List ℕ). record_bytes q ++ l) (written_push rs r) ∙ sym (joined (record_bytes q) (written rs) (record_bytes r))
+written_push [] r = append-nil (record_bytes r)
+written_push (q ∷ rs) r = ap (λ (l : List ℕ). record_bytes q ++ l) (written_push rs r) ∙ sym (append_assoc (record_bytes q) (written rs) (record_bytes r))
 
 all_push : (y : Yard) (rs : List Record) (r : Record) → AllIn y rs → RecordIn y r → AllIn y (rs ++ (r ∷ []))
 all_push y [] r h i = (i, tt)
@@ -179,7 +171,7 @@ so_far_more y xs rs at n r h f =
     let l = ap length w ∙ length-append (written rs) (record_bytes r) in
     let d = drop-drop n at xs in
     let q : (written rs ++ record_bytes r) ++ drop (at + n) xs ≡ xs
-    = joined (written rs) (record_bytes r) (drop (at + n) xs) ∙ (ap (λ (l : List ℕ). written rs ++ (record_bytes r ++ l)) (sym d) ∙ (ap (λ (l : List ℕ). written rs ++ l) f.1 ∙ h.1)) in
+    = append_assoc (written rs) (record_bytes r) (drop (at + n) xs) ∙ (ap (λ (l : List ℕ). written rs ++ (record_bytes r ++ l)) (sym d) ∙ (ap (λ (l : List ℕ). written rs ++ l) f.1 ∙ h.1)) in
     let m = ap length q in
     let m2 = length-append (written rs ++ record_bytes r) (drop (at + n) xs) in
     let m3 = length-append (written rs) (record_bytes r) in

@@ -1,5 +1,5 @@
 -- How long a message is stands in its first bytes, so that none begins another.
-use Rattle.std.proofs.Common.{◌≡◌, ℕ, cond, eqb, List, [], ◌∷◌, ◌++◌, length, get_or, sym, refl, ap, ◌∙◌, arith, length-append}
+use Rattle.std.proofs.Common.{◌≡◌, ℕ, cond, eqb, List, [], ◌∷◌, ◌++◌, length, get_or, sym, refl, ap, ◌∙◌, arith, append-nil, length-append}
 use Rattle.messages.specs.declared.yard.Engine.{Engine}
 use Rattle.messages.specs.declared.message.Act.{Act}
 use Rattle.messages.specs.declared.message.Act.TheVariants as act
@@ -42,10 +42,6 @@ empty (x ∷ xs) h = absurd (omega arith)
 pub ends : (xs ys more : List ℕ) → xs ++ more ≡ ys → length xs ≡ length ys → more ≡ []
 ends xs ys more is same = empty more (omega (arith, simp length-append at (ap length is)))
 
-append_nil : (xs : List ℕ) → xs ++ [] ≡ xs
-append_nil [] = refl
-append_nil (x ∷ xs) = ap (λ (l : List ℕ). x ∷ l) (append_nil xs)
-
 pub none_begins_another : NoneBeginsAnother
 none_begins_another m n more is =
-    ends (bytes_of m) (bytes_of n) more is (sym (size_is m more) ∙ (ap size (is ∙ sym (append_nil (bytes_of n))) ∙ size_is n []))
+    ends (bytes_of m) (bytes_of n) more is (sym (size_is m more) ∙ (ap size (is ∙ sym (append-nil (bytes_of n))) ∙ size_is n []))

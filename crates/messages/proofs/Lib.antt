@@ -1,5 +1,3 @@
-pub mod Dispatch
-pub mod Writing
 pub mod Numbers
 pub mod Back
 pub mod Lengths

@@ -1,7 +1,7 @@
 -- What is written of one message or record. Assumes nothing.
 use Rattle.std.specs.Prelude.{ℕ, List, take}
-use Rattle.messages.specs.declared.encoded.Encoded.{Encoded}
+use Rattle.messages.specs.declared.encoded.Bytes.{Bytes}
 
 -- its bytes
-abbrev pub encoded : Encoded → List ℕ
+abbrev pub encoded : {n : ℕ} → Bytes n → List ℕ
 encoded e = take e.used e.bytes

@@ -1,8 +1,9 @@
 // From bytes to a message: the whole of them is one, or it is turned away.
 ghost use Rattle.std.specs.Prelude.{◌≡◌, ◌+◌, ◌≤◌, length};
 ghost use Rattle.std.specs.Option.{ok_or};
+ghost use Rattle.messages.specs.Journal.{whole_call};
 ghost use Rattle.messages.specs.Promises.{Decoded};
-ghost use Rattle.messages.specs.Reading.{answer_of, call_of, calling, change_of, eight_at, four_at, kind_of, message_of, refusal_of, reply_of, sign_of, waits_of, which_of};
+ghost use Rattle.messages.specs.Reading.{answer_of, call_of, change_of, eight_at, four_at, kind_of, message_of, refusal_of, reply_of, sign_of, waits_of, which_of};
 
 use crate::message::{Act, Answer, Call, Change, Message, Refusal, Reply, Sign, Waits};
 use crate::yard::Yard;
@@ -22,9 +23,7 @@ fn whole(yard: Yard, bytes: &[u8]) -> Option<Message>
         return None;
     };
     match *first {
-        1 => called(yard, Act::Take, rest),
-        2 => called(yard, Act::Free, rest),
-        3 => called(yard, Act::GiveUp, rest),
+        1..=3 => whole_call(yard, bytes).map(Message::Call),
         4 => answer(yard, rest),
         5 => change(yard, rest),
         6 => which_change(yard, rest),
@@ -34,27 +33,53 @@ fn whole(yard: Yard, bytes: &[u8]) -> Option<Message>
     }
 }
 
-fn called(yard: Yard, act: Act, rest: &[u8]) -> Option<Message>
-    ensures { result ≡ calling (call_of yard act rest.now) }
+// A call: its act, and what follows.
+pub(crate) fn whole_call(yard: Yard, bytes: &[u8]) -> Option<Call>
+    ensures { result ≡ whole_call yard bytes.now }
 {
-    Some(Message::Call(call(yard, act, rest)?))
+    let [first, rest @ ..] = bytes else {
+        return None;
+    };
+    let act = Act::try_from(*first).ok()?;
+    call(yard, act, rest)
 }
 
-pub(crate) fn call(yard: Yard, act: Act, rest: &[u8]) -> Option<Call>
+fn call(yard: Yard, act: Act, rest: &[u8]) -> Option<Call>
     ensures { result ≡ call_of yard act rest.now }
 {
-    let [engine, keeper, place, n3, n2, n1, n0] = rest else {
+    let [engine, keeper, place, _, _, _, _] = rest else {
         return None;
     };
     let engine = yard.engine(*engine)?;
     let section = yard.section(*keeper, *place)?;
-    let number = u32::from_be_bytes([*n3, *n2, *n1, *n0]);
+    let number = four_at(rest, 3);
     Some(Call {
         act,
         engine,
         section,
         number,
     })
+}
+
+// An act, by the first byte of a call.
+impl TryFrom<u8> for Act {
+    ghost use Rattle.std.specs.Prelude.{◌≡◌};
+    ghost use Rattle.std.specs.Option.{ok_or};
+    ghost use Rattle.messages.specs.Journal.{act_of};
+    ghost use Rattle.messages.specs.declared.message.Refusal.TheVariants.{Malformed};
+
+    type Error = Refusal;
+
+    ghost try_from_gives = { λ byte act. act ≡ ok_or (act_of byte) Malformed };
+
+    fn try_from(byte: u8) -> Result<Act, Refusal> {
+        match byte {
+            1 => Ok(Act::Take),
+            2 => Ok(Act::Free),
+            3 => Ok(Act::GiveUp),
+            0 | 4..=255 => Err(Refusal::Malformed),
+        }
+    }
 }
 
 fn answer(yard: Yard, rest: &[u8]) -> Option<Message>
@@ -64,14 +89,11 @@ fn answer(yard: Yard, rest: &[u8]) -> Option<Message>
         return None;
     };
     let engine = yard.engine(*engine)?;
-    let reply = reply(*byte, end)?;
-    let holder = yard.holder(*holder)?;
     let call = four_at(rest, 1);
-    let change = four_at(rest, 7);
     let answer = Answer {
-        reply,
-        holder,
-        change,
+        reply: reply(*byte, end)?,
+        holder: yard.holder(*holder)?,
+        change: four_at(rest, 7),
     };
     Some(Message::Answer {
         engine,
@@ -151,13 +173,13 @@ fn sign(yard: Yard, rest: &[u8]) -> Option<Message>
 fn waits(yard: Yard, rest: &[u8]) -> Option<Message>
     ensures { result ≡ waits_of yard rest.now }
 {
-    let [engine, keeper, place, n3, n2, n1, n0, c3, c2, c1, c0] = rest else {
+    let [engine, keeper, place, _, _, _, _, _, _, _, _] = rest else {
         return None;
     };
     let engine = yard.engine(*engine)?;
     let section = yard.section(*keeper, *place)?;
-    let count = u32::from_be_bytes([*n3, *n2, *n1, *n0]);
-    let change = u32::from_be_bytes([*c3, *c2, *c1, *c0]);
+    let count = four_at(rest, 3);
+    let change = four_at(rest, 7);
     Some(Message::Waits(Waits {
         engine,
         section,
@@ -179,5 +201,5 @@ pub(crate) fn eight_at(bytes: &[u8], at: usize) -> u64
     requires { at + 8 ≤ length bytes.now }
     ensures { result ≡ eight_at bytes.now at }
 {
-    u64::from(four_at(bytes, at)) * 4294967296 + u64::from(four_at(bytes, at + 4))
+    (u64::from(four_at(bytes, at)) << 32) + u64::from(four_at(bytes, at + 4))
 }

@@ -1,14 +1,18 @@
-// The bytes of one message or record, in place: no memory is asked for.
+// Bytes in place: no memory is asked for.
 ghost use Rattle.std.specs.Prelude.{◌≤◌};
 
 pub mod writing;
 
-// The longest is a beginning to wait.
+// The longest message or record is a beginning to wait.
 pub const LONGEST: usize = 21;
 
+// At most `N` bytes.
 #[derive(Clone, Copy)]
-pub struct Encoded {
-    bytes: [u8; LONGEST],
+pub struct Bytes<const N: usize> {
+    bytes: [u8; N],
     used: usize,
-    ghost fits: { used ≤ 21 },
+    ghost fits: { used ≤ N },
 }
+
+// The bytes of one message or record.
+pub type Encoded = Bytes<LONGEST>;

@@ -1,6 +1,6 @@
 // From a message to its bytes, field by field as the table has them.
 ghost use Rattle.std.specs.Prelude.{◌≡◌, ◌<◌, ◌++◌};
-ghost use Rattle.messages.specs.Table.{bytes_of, holder_byte, act_byte, refusal_number, reply_byte, reply_end};
+ghost use Rattle.messages.specs.Table.{bytes_of, holder_byte, refusal_number, reply_byte, reply_end};
 ghost use Rattle.messages.specs.Written.{encoded};
 
 use crate::encoded::Encoded;
@@ -78,25 +78,21 @@ fn reply_end(out: Encoded, reply: Reply) -> Encoded
     }
 }
 
-impl Act {
-    pub(crate) fn byte(self) -> u8
-        ensures { result ≡ act_byte self }
-    {
-        match self {
-            Act::Take => 1,
-            Act::Free => 2,
-            Act::GiveUp => 3,
-        }
+impl From<Act> for u8 {
+    ghost use Rattle.std.specs.Prelude.{◌≡◌};
+    ghost use Rattle.messages.specs.Table.{act_byte};
+
+    ghost from_gives = { λ act byte. byte ≡ act_byte act };
+
+    fn from(act: Act) -> u8 {
+        act as u8
     }
 }
 
 fn holder_byte(holder: Option<Engine>) -> u8
     ensures { result ≡ holder_byte holder }
 {
-    match holder {
-        Some(engine) => engine.0,
-        None => NOBODY,
-    }
+    holder.map_or(NOBODY, |engine| engine.0)
 }
 
 impl Reply {
@@ -116,13 +112,6 @@ impl Refusal {
     pub fn number(self) -> u8
         ensures { result ≡ refusal_number self }
     {
-        match self {
-            Refusal::Malformed => 1,
-            Refusal::WrongCall => 2,
-            Refusal::Waiting => 3,
-            Refusal::Mismatch => 4,
-            Refusal::Stale => 6,
-            Refusal::Exhausted => 7,
-        }
+        self as u8
     }
 }

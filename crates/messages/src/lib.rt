@@ -10,7 +10,7 @@ mod records;
 mod yard;
 
 pub use decoder::decode;
-pub use encoded::{Encoded, LONGEST};
+pub use encoded::{Bytes, Encoded, LONGEST};
 pub use encoder::{encode, encode_into};
 pub use message::{
     Act, Answer, Beginning, Call, Change, Message, Record, Refusal, Reply, Sign, Waits,

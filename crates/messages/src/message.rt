@@ -4,9 +4,9 @@ use crate::yard::{BoxNumber, Engine, Section};
 // What an engine's home asks of the box of a section.
 #[derive(Clone, Copy, PartialEq, Eq)]
 pub enum Act {
-    Take,
-    Free,
-    GiveUp,
+    Take = 1,
+    Free = 2,
+    GiveUp = 3,
 }
 
 // One call of an engine to the keeper of a section. `number` is one higher each time.
@@ -18,15 +18,15 @@ pub struct Call {
     pub number: u32,
 }
 
-// Why something is turned away. Each has its number (`Refusal::number`).
+// Why something is turned away, with the number by which it is told.
 #[derive(Clone, Copy, PartialEq, Eq)]
 pub enum Refusal {
-    Malformed,
-    WrongCall,
-    Waiting,
-    Mismatch,
-    Stale,
-    Exhausted,
+    Malformed = 1,
+    WrongCall = 2,
+    Waiting = 3,
+    Mismatch = 4,
+    Stale = 6,
+    Exhausted = 7,
 }
 
 // What becomes of a call.

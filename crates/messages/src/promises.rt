@@ -2,44 +2,30 @@
 ghost use Rattle.messages.specs.Journal.{CutIsShort, CutReadsBack, OneList};
 ghost use Rattle.messages.specs.Promises.{CutRefused, NoneBeginsAnother, OneForm, ReadsBack};
 
-pub fn reads_back() -> u8
+pub fn reads_back()
     ensures { ReadsBack }
-{
-    0
-}
+{}
 
-pub fn one_form() -> u8
+pub fn one_form()
     ensures { OneForm }
-{
-    0
-}
+{}
 
-pub fn none_begins_another() -> u8
+pub fn none_begins_another()
     ensures { NoneBeginsAnother }
-{
-    0
-}
+{}
 
-pub fn cut_refused() -> u8
+pub fn cut_refused()
     ensures { CutRefused }
-{
-    0
-}
+{}
 
-pub fn cut_is_short() -> u8
+pub fn cut_is_short()
     ensures { CutIsShort }
-{
-    0
-}
+{}
 
-pub fn one_list() -> u8
+pub fn one_list()
     ensures { OneList }
-{
-    0
-}
+{}
 
-pub fn cut_reads_back() -> u8
+pub fn cut_reads_back()
     ensures { CutReadsBack }
-{
-    0
-}
+{}

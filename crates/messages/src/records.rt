@@ -2,9 +2,10 @@
 pub mod reading;
 
 use crate::message::Record;
+use std::alloc::AllocFailed;
 
 // What stands first in a file's bytes.
-#[derive(Clone, Copy)]
+#[derive(Clone, Copy, PartialEq, Eq)]
 pub enum First {
     // A whole record, and how many bytes it takes.
     Whole { record: Record, length: usize },
@@ -21,9 +22,20 @@ pub struct Replay {
     pub length: usize,
 }
 
-#[derive(Clone, Copy)]
+#[derive(Clone, Copy, PartialEq, Eq)]
 pub enum Unread {
     // At byte `at` stands neither a record nor the beginning of one.
     Damaged { at: usize },
     NoMemory,
+}
+
+impl From<AllocFailed<Record>> for Unread {
+    ghost use Rattle.std.specs.Prelude.{◌≡◌};
+    ghost use Rattle.messages.specs.declared.records.Unread.TheVariants.{NoMemory};
+
+    ghost from_gives = { λ _ unread. unread ≡ NoMemory };
+
+    fn from(_failed: AllocFailed<Record>) -> Unread {
+        Unread::NoMemory
+    }
 }

@@ -12,5 +12,5 @@ pub extern "C" fn recode(boxes: u8, engines: u8, bytes: &[u8], out: &mut [u8]) -
     ensures whole { IsMessage boxes engines bytes.now → length bytes.now ≤ length out.old → result ≡ length bytes.now }
     ensures rest { drop result out.new ≡ drop result out.old }
 {
-    recode::recode(boxes, engines, bytes, out)
+    recode::recode(boxes, engines, bytes, out).unwrap_or(0)
 }

@@ -10,7 +10,8 @@ use journal::Output;
 use keeper::Keeper;
 use messages::{BoxNumber, Engine, Holder, Section};
 use script::Line;
-use show::{EngineLine, PLACES, SectionLine};
+use sections::PLACES;
+use show::{EngineLine, SectionLine};
 use std::alloc::Global;
 use std::io::{self, BufRead, BufReader, BufWriter, Write};
 use text::OutputLine;
@@ -27,19 +28,16 @@ fn print_said<W: Write>(
 ) -> io::Result<()> {
     let mut number = before;
     for output in outputs {
+        // Only messages have numbers, so they are counted, and not the outputs.
         if let Output::Send { .. } = output {
             number = number.saturating_add(1);
         }
-        let output = *output;
-        writeln!(
-            out,
-            "{}",
-            OutputLine {
-                number,
-                from,
-                output
-            }
-        )?;
+        let line = OutputLine {
+            number,
+            from,
+            output: *output,
+        };
+        writeln!(out, "{line}")?;
     }
     Ok(())
 }
@@ -47,19 +45,15 @@ fn print_said<W: Write>(
 fn print_sections<W: Write>(out: &mut W, number: BoxNumber, keeper: &Keeper) -> io::Result<()> {
     for place in 0..PLACES {
         if let Holder::Engine(holder) = keeper.holder(place) {
-            let section = Section {
-                keeper: number,
-                place,
+            let line = SectionLine {
+                section: Section {
+                    keeper: number,
+                    place,
+                },
+                holder,
+                keeper,
             };
-            writeln!(
-                out,
-                "{}",
-                SectionLine {
-                    section,
-                    holder,
-                    keeper
-                }
-            )?;
+            writeln!(out, "{line}")?;
         }
     }
     Ok(())
@@ -74,21 +68,17 @@ fn print_world<W: Write>(out: &mut W, world: &World) -> io::Result<()> {
         }
     }
     for engine in (0..yard.engines).map(Engine) {
-        let Some(signal_box) = world.signal_box(boxes::home_of(yard, engine)) else {
+        let Some(signal_box) = world.signal_box(yard.home(engine)) else {
             continue;
         };
         let home = signal_box.home();
         if let Ok(state) = home.state(engine) {
-            let boxes = home.yard().boxes;
-            writeln!(
-                out,
-                "{}",
-                EngineLine {
-                    engine,
-                    state,
-                    boxes
-                }
-            )?;
+            let line = EngineLine {
+                engine,
+                state,
+                boxes: home.yard().boxes,
+            };
+            writeln!(out, "{line}")?;
         }
     }
     Ok(())

@@ -50,24 +50,15 @@ fn named(word: &[u8], text: &[u8]) -> Option<Step>
     ensures { result ≡ named word.now text.now }
 {
     match word {
-        b"take" => {
-            let (engine, section) = wish(text)?;
-            Some(Step::Take { engine, section })
-        }
-        b"free" => {
-            let (engine, section) = wish(text)?;
-            Some(Step::Free { engine, section })
-        }
+        b"take" => wish(text).map(|(engine, section)| Step::Take { engine, section }),
+        b"free" => wish(text).map(|(engine, section)| Step::Free { engine, section }),
         b"deliver" => number(text).map(|message| Step::Deliver {
             message: message as usize,
         }),
-        b"cut" => {
-            let (message, length) = two_numbers(text)?;
-            Some(Step::Cut {
-                message: message as usize,
-                length: length as usize,
-            })
-        }
+        b"cut" => two_numbers(text).map(|(message, length)| Step::Cut {
+            message: message as usize,
+            length: length as usize,
+        }),
         b"second" => small_number(text).map(|number| Step::Second(BoxNumber(number))),
         b"stop" => small_number(text).map(|number| Step::Stop(BoxNumber(number))),
         _ => None,

@@ -3,10 +3,8 @@ use crate::text::Spot;
 use engine_state::State;
 use keeper::Keeper;
 use messages::{Act, BoxNumber, Engine, Section};
+use sections::PLACES;
 use std::fmt;
-
-// The sections of a box.
-pub const PLACES: u8 = 64;
 
 // The line of a section that somebody has.
 #[derive(Clone, Copy)]

@@ -12,25 +12,12 @@ pub enum Ending {
     Output,
 }
 
-fn fault_text(fault: Fault) -> &'static str {
-    match fault {
-        Fault::Memory => "no memory",
-        Fault::Open => "yard: can't be opened",
-        Fault::Append => "yard: can't be written",
-        Fault::Sync => "yard: can't be synced",
-        Fault::Read => "yard: can't be read",
-        Fault::Cut => "yard: can't be cut back",
-    }
-}
-
 impl fmt::Display for Ending {
     fn fmt<W: fmt::Write>(&self, f: &mut fmt::Formatter<W>) -> fmt::Result {
         match *self {
             Ending::Arguments => write!(f, "usage: box NUMBER ENGINES [BOXES]"),
-            Ending::Fault(fault) => {
-                let text = fault_text(fault);
-                write!(f, "box: {text}")
-            }
+            Ending::Fault(fault @ Fault::Memory) => write!(f, "box: {fault}"),
+            Ending::Fault(fault) => write!(f, "box: yard: {fault}"),
             Ending::Damaged(at) => write!(f, "box: yard: damage at byte {at}"),
             Ending::Input => write!(f, "box: its input can't be read"),
             Ending::Output => write!(f, "box: its output can't be written"),

@@ -21,9 +21,7 @@ const CHUNK: usize = 65536;
 
 // Which box it is, by its arguments.
 fn which(rt: &HostRuntime) -> Result<Which, Ending> {
-    let Ok(words) = env::args(rt) else {
-        return Err(Ending::Arguments);
-    };
+    let words = env::args(rt).map_err(|_| Ending::Arguments)?;
     let words: Vec<String> = words.collect(rt.alloc())?;
     let asked = match words.as_slice() {
         [_, number, engines] => of_sixteen(number.as_bytes(), engines.as_bytes()),
@@ -34,20 +32,16 @@ fn which(rt: &HostRuntime) -> Result<Which, Ending> {
         ),
         _ => None,
     };
-    match asked {
-        Some(which) => Ok(which),
-        None => Err(Ending::Arguments),
-    }
+    asked.ok_or(Ending::Arguments)
 }
 
 // Prints what may be said, before any more input is waited for.
 fn say(rt: &HostRuntime, own: BoxNumber, said: &Said) -> Result<(), Ending> {
     let text = print(own, said.as_slice(), rt.alloc())?;
     let mut out = rt.stdout();
-    if out.write_all(text.as_slice()).is_err() || out.flush().is_err() {
-        return Err(Ending::Output);
-    }
-    Ok(())
+    out.write_all(text.as_slice())
+        .map_err(|_| Ending::Output)?;
+    out.flush().map_err(|_| Ending::Output)
 }
 
 // Adds what has come to what waits; how much that is.
@@ -56,9 +50,7 @@ fn receive<R: Read>(
     chunk: &mut [u8],
     waiting: &mut Vec<u8>,
 ) -> Result<usize, Ending> {
-    let Ok(length) = input.read(chunk) else {
-        return Err(Ending::Input);
-    };
+    let length = input.read(chunk).map_err(|_| Ending::Input)?;
     waiting.extend_from_slice(&chunk[0..length])?;
     Ok(length)
 }
@@ -74,6 +66,7 @@ fn run(
     let mut input = rt.stdin();
     let mut chunk = [0u8; CHUNK];
     let mut waiting = Vec::new(heap);
+    // No input comes in so many pieces, and each loop has to have an end.
     for _ in 0..u64::MAX {
         if receive(&mut input, &mut chunk, &mut waiting)? == 0 {
             break;
@@ -89,9 +82,8 @@ fn run(
 fn start(rt: &HostRuntime) -> Result<(), Ending> {
     let Which { yard, number } = which(rt)?;
     let mut file = DiskFile::open(rt, FOLDER, FILE)?;
-    let CameUp { state, said } = come_up(&mut file, yard, number, rt.alloc())?;
+    let CameUp { mut state, said } = come_up(&mut file, yard, number, rt.alloc())?;
     say(rt, number, &said)?;
-    let mut state = state;
     run(rt, number, &mut state, &mut file)
 }
 

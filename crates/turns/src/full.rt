@@ -1,9 +1,10 @@
 // A box with 64 engines: engine e has section e, but the last has none; all but engine 0 wait for section 0, and are noted.
 use crate::kind::{Kind, ONLY_BOX, WANTED};
 use boxes::{Input, SignalBox};
-use journal::{Effects, Fault, MemoryFile, Output, open};
+use journal::{Effects, Fault, MemoryFile, OpenFault, open};
 use messages::{Engine, Message, Section, Yard, encode};
 use std::alloc::Global;
+use std::collections::VecDeque;
 
 const ENGINES: u8 = 64;
 
@@ -13,31 +14,34 @@ const ENOUGH: usize = 1000;
 #[derive(Drop)]
 pub struct Full {
     signal_box: SignalBox,
-    yard: Yard,
     heap: Global,
+}
+
+// How much came of a turn.
+#[derive(Clone, Copy)]
+pub struct Count {
+    pub records: usize,
+    pub said: usize,
 }
 
 impl Full {
     pub fn new(heap: Global) -> Result<Full, Fault> {
-        let Some(yard) = Yard::new(1, ENGINES) else {
-            return Err(Fault::Open);
-        };
+        let yard = Yard::new(1, ENGINES).ok_or(Fault::Open)?;
         let mut full = Full {
             signal_box: SignalBox::new(yard, ONLY_BOX),
-            yard,
             heap,
         };
-        for e in 0u8..ENGINES - 1 {
+        for place in 0u8..ENGINES - 1 {
             full.run_out(
-                Engine(e),
+                Engine(place),
                 Section {
                     keeper: ONLY_BOX,
-                    place: e,
+                    place,
                 },
             )?;
         }
-        for e in 1u8..ENGINES {
-            full.run_out(Engine(e), WANTED)?;
+        for engine in 1u8..ENGINES {
+            full.run_out(Engine(engine), WANTED)?;
         }
         Ok(full)
     }
@@ -45,70 +49,64 @@ impl Full {
     // Lets an engine take a section, and delivers all that the box sends to itself because of it.
     fn run_out(&mut self, engine: Engine, section: Section) -> Result<(), Fault> {
         let mut file = MemoryFile::new(self.heap);
-        let mut own = Vec::new(self.heap);
-        let mut effects = Effects::new(self.heap);
-        let handled = self
-            .signal_box
-            .handle(Input::Take { engine, section }, &mut effects);
-        finish(handled, effects, &mut file, &mut own)?;
-        for i in 0usize..ENOUGH {
-            if i >= own.len() {
+        let mut own = VecDeque::new(self.heap);
+        let effects = self.handle(Input::Take { engine, section })?;
+        finish(effects, &mut file, &mut own)?;
+        for _ in 0..ENOUGH {
+            let Some(message) = own.pop_front() else {
                 return Ok(());
-            }
-            let message = own[i];
-            let effects = self.turn(Some(message))?;
-            finish(Ok(()), effects, &mut file, &mut own)?;
+            };
+            let effects = self.deliver(message)?;
+            finish(effects, &mut file, &mut own)?;
         }
         Err(Fault::Append)
     }
 
+    fn handle(&mut self, input: Input) -> Result<Effects, Fault> {
+        Effects::gather(self.heap, &mut self.signal_box, |signal_box, effects| {
+            signal_box.handle(input, effects)
+        })
+    }
+
+    fn deliver(&mut self, message: Message) -> Result<Effects, Fault> {
+        Effects::gather(self.heap, &mut self.signal_box, |signal_box, effects| {
+            signal_box.deliver(ONLY_BOX, encode(message).as_slice(), effects)
+        })
+    }
+
+    // The message of a turn; where it is none, a second.
     fn turn(&mut self, message: Option<Message>) -> Result<Effects, Fault> {
-        let mut effects = Effects::new(self.heap);
-        let handled = match message {
-            Some(message) => self
-                .signal_box
-                .deliver(ONLY_BOX, encode(message).as_slice(), &mut effects),
-            None => self.signal_box.handle(Input::Second, &mut effects),
-        };
-        match handled {
-            Ok(()) => Ok(effects),
-            Err(fault) => {
-                effects.abandon();
-                Err(fault)
-            }
+        match message {
+            Some(message) => self.deliver(message),
+            None => self.handle(Input::Second),
         }
     }
 
-    // Handles the message that many times, and once more; how much came of the last time: records, and lines said.
-    pub fn turns(&mut self, kind: Kind, times: u32) -> Result<(usize, usize), Fault> {
+    // Handles the message that many times, and once more; how much came of the last time.
+    pub fn turns(&mut self, kind: Kind, times: u32) -> Result<Count, OpenFault> {
         for turn in 0u32..times {
-            let effects = self.turn(kind.message(turn))?;
-            effects.abandon();
+            self.turn(kind.message(turn))?.abandon();
         }
         let mut file = MemoryFile::new(self.heap);
         let said = self.turn(kind.message(times))?.commit(&mut file)?;
-        match open(&mut file, self.yard, self.heap) {
-            Ok(records) => Ok((records.len(), said.as_slice().len())),
-            Err(_) => Err(Fault::Read),
-        }
+        let records = open(&mut file, self.signal_box.home().yard(), self.heap)?;
+        Ok(Count {
+            records: records.len(),
+            said: said.as_slice().len(),
+        })
     }
 }
 
 // Stores what was recorded, and adds what the box sends to those that are to be delivered.
 fn finish(
-    handled: Result<(), Fault>,
     effects: Effects,
     file: &mut MemoryFile,
-    own: &mut Vec<Message>,
+    own: &mut VecDeque<Message>,
 ) -> Result<(), Fault> {
-    if let Err(fault) = handled {
-        effects.abandon();
-        return Err(fault);
-    }
     let said = effects.commit(file)?;
     for output in said.as_slice() {
-        if let Output::Send { message, .. } = output {
-            own.push(*message)?;
+        if let Some((_, message)) = output.sent() {
+            own.push_back(message)?;
         }
     }
     Ok(())

@@ -1,5 +1,6 @@
 // Which message is handled again and again.
 use messages::{Act, BoxNumber, Call, Engine, Holder, Message, Section};
+use std::str::FromStr;
 
 pub const ONLY_BOX: BoxNumber = BoxNumber(0);
 
@@ -20,7 +21,7 @@ const FIRST: Engine = Engine(0);
 // It has nothing, and waits for the wanted section.
 const LAST: Engine = Engine(63);
 
-#[derive(Clone, Copy)]
+#[derive(Clone, Copy, PartialEq, Eq, Debug)]
 pub enum Kind {
     // A take and a free in turn, each with the next number: done, recorded and answered.
     Call,
@@ -38,20 +39,28 @@ pub enum Kind {
     Second,
 }
 
-impl Kind {
-    pub fn from_word(word: &str) -> Option<Kind> {
+// A word that is no kind.
+#[derive(Clone, Copy, PartialEq, Eq, Debug)]
+pub struct Unknown;
+
+impl FromStr for Kind {
+    type Err = Unknown;
+
+    fn from_str(word: &str) -> Result<Kind, Unknown> {
         match word {
-            "call" => Some(Kind::Call),
-            "repeat" => Some(Kind::Repeat),
-            "which" => Some(Kind::Which),
-            "change" => Some(Kind::Change),
-            "waits" => Some(Kind::Waits),
-            "heard" => Some(Kind::Heard),
-            "second" => Some(Kind::Second),
-            _ => None,
+            "call" => Ok(Kind::Call),
+            "repeat" => Ok(Kind::Repeat),
+            "which" => Ok(Kind::Which),
+            "change" => Ok(Kind::Change),
+            "waits" => Ok(Kind::Waits),
+            "heard" => Ok(Kind::Heard),
+            "second" => Ok(Kind::Second),
+            _ => Err(Unknown),
         }
     }
+}
 
+impl Kind {
     // The message of a turn; a second is none. Filling the box took one call of engine 0.
     pub fn message(self, turn: u32) -> Option<Message> {
         match self {

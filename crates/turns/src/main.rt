@@ -5,34 +5,28 @@
 mod full;
 mod kind;
 
-use anyhow::anyhow;
-use full::Full;
+use anyhow::{Context, Result, anyhow};
+use full::{Count, Full};
 use kind::Kind;
 use std::io::{BufRead, BufReader};
 
 const USAGE: &str =
     "a line is KIND TIMES; KIND is call, repeat, which, change, waits, heard or second";
 
-fn times(text: &str) -> Option<u32> {
-    text.parse::<u32>().ok()
+// What a line asks for.
+fn task(line: &str) -> Option<(Kind, u32)> {
+    let (word, number) = line.split_once(' ')?;
+    Some((word.parse().ok()?, number.parse().ok()?))
 }
 
-fn main(rt: HostRuntime) -> anyhow::Result<()> {
+fn main(rt: HostRuntime) -> Result<()> {
     let heap = rt.alloc();
     for line in BufReader::new(heap, rt.stdin())?.lines(heap) {
-        let line = line?;
-        let Some((word, number)) = line.as_str().split_once(' ') else {
-            return Err(anyhow!("{USAGE}"));
-        };
-        let (Some(kind), Some(times)) = (Kind::from_word(word), times(number)) else {
-            return Err(anyhow!("{USAGE}"));
-        };
-        let Ok(mut full) = Full::new(heap) else {
-            return Err(anyhow!("the box can't be filled"));
-        };
-        let Ok((records, said)) = full.turns(kind, times) else {
-            return Err(anyhow!("a turn failed"));
-        };
+        let (kind, times) = task(line?.as_str()).context(USAGE)?;
+        let mut full = Full::new(heap).map_err(|_| anyhow!("the box can't be filled"))?;
+        let Count { records, said } = full
+            .turns(kind, times)
+            .map_err(|_| anyhow!("a turn failed"))?;
         println!(rt; "{records} records, {said} said")?;
     }
     Ok(())

@@ -1,13 +1,15 @@
 -- A step at one box of many: the others stand, and what it says is sent from there.
-use Rattle.std.proofs.Common.{◌≡◌, ℕ, ◌-◌, ◌<◌, ◌≤◌, true, false, cond, ltb, List, ◌++◌, map, length, get_or, set, Some, None, Ok, sym, refl, ap, ◌∙◌, subst}
+use Rattle.std.proofs.Common.{◌≡◌, ℕ, ◌<◌, true, false, cond, ltb, List, map, length, get_or, set, Some, Ok, sym, ap, ◌∙◌, subst}
 use Rattle.std.proofs.lemmas.List.{get_or-map, length-map, map-set}
-use Rattle.std.proofs.lemmas.Bool.{le-leb, le-ltb, lt-ltb}
-use Rattle.std.specs.List.{flat_map}
+use Rattle.std.proofs.lemmas.Bool.{lt-ltb}
+use Rattle.std.specs.Borrow.{MutBor}
 use Rattle.messages.specs.declared.yard.BoxNumber.{BoxNumber}
 use Rattle.messages.specs.declared.yard.Yard.{Yard}
 use Rattle.messages.specs.declared.message.Record.{Record}
 use Rattle.messages.specs.Journal.{Holds, written}
+use Rattle.journal.specs.declared.effects.Said.{Said}
 use Rattle.journal.specs.declared.output.Output.{Output}
+use Rattle.journal.specs.Effect.{said_of}
 use Rattle.boxes.specs.declared.signal_box.SignalBox.{SignalBox}
 use Rattle.boxes.specs.Log.{none}
 use Rattle.boxes.specs.Model.{fresh, state_of}
@@ -16,7 +18,8 @@ use Rattle.boxes.specs.Opening.{open_from}
 use Rattle.world.specs.declared.envelope.Envelope as code
 use Rattle.world.specs.declared.station.Station as held
 use Rattle.world.specs.Station.{Restarts, Station, committed, fresh_station, station_of}
-use Rattle.world.specs.World.{Answer, Either, Envelope, Found, Stops, World, at_box, envelope_of, is_sent, message_at, said, sent_by, spoken, state_at, turned_away, with_message}
+use Rattle.world.specs.Turn.{Turn, Turned, TurnsAt}
+use Rattle.world.specs.World.{Answer, Either, Envelope, Found, Stops, World, at_box, envelope_of, is_box, is_sent, message_at, said, spoken, station_at, turned_away, with_message}
 
 -- the world of boxes as they are in memory
 abbrev pub world : Yard → List held.Station → List Envelope → World
@@ -29,34 +32,42 @@ here : (y : Yard) (xs : List held.Station) (n : BoxNumber) (x : held.Station) �
     → get_or (map station_of xs) n.0 (fresh_station y n) ≡ station_of x
 here y xs n x l e = get_or-map station_of xs n.0 x (fresh_station y n) l ∙ ap station_of (sym e)
 
-pub stepped : (y : Yard) (es : List Envelope) (xs : List held.Station) (n : BoxNumber) (f : Station → Station × List Output) (x x' : held.Station) (os : List Output) (r : World × Answer)
-    → n.0 < length xs → x ≡ get_or xs n.0 x → (station_of x', os) ≡ f (station_of x) → r ≡ spoken (world y (set xs n.0 x') es) n os → r ≡ at_box (world y xs es) n f
-unfolding at_box
-stepped y es xs n f x x' os r l e q h =
-    h ∙ (ap (λ s. spoken (record { yard = y; stations = s; sent = es }) n os) (map-set station_of xs n.0 x')
-    ∙ (ap (said (world y xs es) n) (q ∙ ap f (sym (here y xs n x l e)))
-    ∙ sym (ap (λ b. cond b (said (world y xs es) n (f (get_or (map station_of xs) n.0 (fresh_station y n)))) (turned_away (world y xs es))) (inside xs n l))))
-
-pub missed : (y : Yard) (es : List Envelope) (xs : List held.Station) (n : BoxNumber) (f : Station → Station × List Output) → length xs ≤ n.0 → turned_away (world y xs es) ≡ at_box (world y xs es) n f
-unfolding at_box
-missed y es xs n f l =
-    let outside : ltb n.0 (length (map station_of xs)) ≡ false = rw (length-map xs station_of) (le-ltb n.0 (length xs) l) in
-    sym (ap (λ b. cond b (said (world y xs es) n (f (get_or (map station_of xs) n.0 (fresh_station y n)))) (turned_away (world y xs es))) outside)
-
-pub stopped : (y : Yard) (es : List Envelope) (xs : List held.Station) (n : BoxNumber) (x x' : held.Station) (os : List Output) (r : World × Answer)
-    → n.0 < length xs → x ≡ get_or xs n.0 x → Restarts y n (station_of x) (station_of x', os) → r ≡ spoken (world y (set xs n.0 x') es) n os → Stops (world y xs es) n r
-stopped y es xs n x x' os r l e q h =
-    let A : Type 0 = (p : Station × List Output) × Restarts y n (get_or (map station_of xs) n.0 (fresh_station y n)) p × (r ≡ said (world y xs es) n p) in
-    let at : Restarts y n (get_or (map station_of xs) n.0 (fresh_station y n)) (station_of x', os) = subst (λ s. Restarts y n s (station_of x', os)) (sym (here y xs n x l e)) q in
+-- a turn of one box of many, in memory
+turned_there : (y : Yard) (es : List Envelope) (xs : List held.Station) (n : BoxNumber) (turns : Station → Station × List Output → Type 0) (x x' : held.Station) (os : List Output) (r : World × Answer)
+    → n.0 < length xs → x ≡ get_or xs n.0 x → turns (station_of x) (station_of x', os) → r ≡ spoken (world y (set xs n.0 x') es) n os → TurnsAt (world y xs es) n turns r
+turned_there y es xs n turns x x' os r l e t h =
+    let A : Type 0 = (p : Station × List Output) × turns (get_or (map station_of xs) n.0 (fresh_station y n)) p × (r ≡ said (world y xs es) n p) in
+    let at : turns (get_or (map station_of xs) n.0 (fresh_station y n)) (station_of x', os) = subst (λ s. turns s (station_of x', os)) (sym (here y xs n x l e)) t in
     let a : A = ((station_of x', os), at, h ∙ ap (λ s. spoken (record { yard = y; stations = s; sent = es }) n os) (map-set station_of xs n.0 x')) in
-    subst (λ b. Either b A (r ≡ turned_away (world y xs es))) (sym (inside xs n l)) a
+    record { made = subst (λ b. Either b A (r ≡ turned_away (world y xs es))) (sym (inside xs n l)) a }
 
-pub not_stopped : (y : Yard) (es : List Envelope) (xs : List held.Station) (n : BoxNumber) → length xs ≤ n.0 → Stops (world y xs es) n (turned_away (world y xs es))
-not_stopped y es xs n l =
-    let r : World × Answer = turned_away (world y xs es) in
-    let A : Type 0 = (p : Station × List Output) × Restarts y n (get_or (map station_of xs) n.0 (fresh_station y n)) p × (r ≡ said (world y xs es) n p) in
-    let outside : ltb n.0 (length (map station_of xs)) ≡ false = rw (length-map xs station_of) (le-ltb n.0 (length xs) l) in
-    subst (λ b. Either b A (r ≡ turned_away (world y xs es))) (sym outside) refl
+pub turned : (y : Yard) (es : List Envelope) (xs : List held.Station) (n : BoxNumber) (turns : Station → Station × List Output → Type 0) (i : ℕ) (x x' : held.Station) (os : List Output) (r : World × Answer)
+    → i ≡ n.0 → i < length xs → x ≡ get_or xs i x → turns (station_of x) (station_of x', os) → r ≡ spoken (world y (set xs i x') es) n os → TurnsAt (world y xs es) n turns r
+turned y es xs n turns i x x' os r same l e t h =
+    turned_there y es xs n turns x x' os r (subst (λ k. k < length xs) same l) (subst (λ k. x ≡ get_or xs k x) same e) t (h ∙ ap (λ k. spoken (world y (set xs k x') es) n os) same)
+
+-- a turn that can make only one thing of the box
+pub stepped : (w : World) (n : BoxNumber) (f : Station → Station × List Output) (turns : Station → Station × List Output → Type 0) (r : World × Answer)
+    → ((s : Station) (p : Station × List Output) → turns s p → p ≡ f s) → TurnsAt w n turns r → r ≡ at_box w n f
+unfolding at_box
+stepped w n f turns r one turned =
+    elim (is_box w n) as (λ b. Either b ((p : Station × List Output) × turns (station_at w n) p × (r ≡ said w n p)) (r ≡ turned_away w) → r ≡ cond b (said w n (f (station_at w n))) (turned_away w))
+    [ true ↦ λ t. t.2 ∙ ap (said w n) (one (station_at w n) t.0 t.1) | false ↦ λ t. t ] turned.made
+
+-- a turn in which the box comes up from its file
+pub stopped : {F : Type 0} (g : Turn F) (turn : F) (w : World) (n : BoxNumber) (r : World × Answer)
+    → ((before after : MutBor held.Station) (told : Said) → g.post turn (before, tt) (Ok told, (after, tt)) → Restarts w.yard n (station_of before.now) (station_of after.now, said_of told))
+    → TurnsAt w n (Turned g turn) r → Stops w n r
+stopped g turn w n r restarts turned =
+    let each : (s : Station) (p : Station × List Output) → Turned g turn s p → Restarts w.yard n s p =
+    λ s p t.
+    let P : Station → Type 0 = λ x. Restarts w.yard n x p in
+    let Q : held.Station → Type 0 = λ x. Restarts w.yard n (station_of t.met.shown.now) (station_of x, said_of t.told) in
+    subst P (ap station_of t.met.shows ∙ t.was) (subst (Restarts w.yard n (station_of t.met.shown.now)) (sym t.gives) (subst Q t.met.leaves (restarts t.met.shown t.met.left t.told t.met.met)))
+    in
+    elim (is_box w n) as (λ b. Either b ((p : Station × List Output) × Turned g turn (station_at w n) p × (r ≡ said w n p)) (r ≡ turned_away w)
+    → Either b ((p : Station × List Output) × Restarts w.yard n (station_at w n) p × (r ≡ said w n p)) (r ≡ turned_away w))
+    [ true ↦ λ t. (t.0, each (station_at w n) t.0 t.1, t.2) | false ↦ λ t. t ] turned.made
 
 pub restarted : (y : Yard) (n : BoxNumber) (s : Station) (rs slice : List Record) (f : List ℕ) (b : SignalBox) (p : Station × List Output)
     → ((rest : List ℕ) × Holds y s.file rs rest) → f ≡ written rs → slice ≡ rs → Ok (state_of b) ≡ open_from 0 slice (fresh y n)
@@ -64,22 +75,7 @@ pub restarted : (y : Yard) (n : BoxNumber) (s : Station) (rs slice : List Record
 restarted y n s rs slice f b p h w q o e =
     (rs, h.0, state_of b, h.1, sym (o ∙ ap (λ l. open_from 0 l (fresh y n)) q), e ∙ ap (λ g. committed g (state_of b, reminders_of b.home none)) w)
 
-pub spoke : (y : Yard) (xs : List held.Station) (es fs : List code.Envelope) (n : BoxNumber) (os given : List Output) (before : ℕ)
-    → map envelope_of fs ≡ map envelope_of es ++ flat_map (sent_by n) given → given ≡ os → before ≡ length es
-    → ◌≡◌ {A = World × Answer} (world y xs (map envelope_of fs), Ok (n, before, os)) (spoken (world y xs (map envelope_of es)) n os)
-spoke y xs es fs n os given before p q l =
-    let same : map envelope_of fs ≡ map envelope_of es ++ flat_map (sent_by n) os = p ∙ ap (λ o. map envelope_of es ++ flat_map (sent_by n) o) q in
-    let many : before ≡ length (map envelope_of es) = l ∙ sym (length-map es envelope_of) in
-    ap (λ (e : List Envelope). (world y xs e, Ok (n, before, os))) same ∙ ap (λ (k : ℕ). (world y xs (map envelope_of es ++ flat_map (sent_by n) os), Ok (n, k, os))) many
-
--- the message of a number, and what is no number of one
-pub is_found : (y : Yard) (xs : List held.Station) (es : List code.Envelope) (m : ℕ) (e : code.Envelope) → 1 ≤ m → m - 1 < length es → e ≡ get_or es (m - 1) e → Found (world y xs (map envelope_of es)) m (Some e)
-is_found y xs es m e a l q =
-    (rw (le-leb 1 m a, length-map es envelope_of) (lt-ltb (m - 1) (length es) l), ap envelope_of q ∙ sym (get_or-map envelope_of es (m - 1) e _ l))
-
-pub past_all : (y : Yard) (xs : List held.Station) (es : List code.Envelope) (m : ℕ) → 1 ≤ m → length es ≤ m - 1 → Found (world y xs (map envelope_of es)) m None
-past_all y xs es m a l = rw (le-leb 1 m a, length-map es envelope_of) (le-ltb (m - 1) (length es) l)
-
+-- the message of a number, and none
 pub with_found : (w : World) (m : ℕ) (f : Envelope → World × Answer) (e : code.Envelope) (r : World × Answer) → Found w m (Some e) → r ≡ f (envelope_of e) → r ≡ with_message w m f
 unfolding with_message
 with_found w m f e r h q = q ∙ (ap f h.1 ∙ sym (ap (λ b. cond b (f (message_at w m)) (turned_away w)) h.0))
@@ -87,15 +83,3 @@ with_found w m f e r h q = q ∙ (ap f h.1 ∙ sym (ap (λ b. cond b (f (message
 pub with_none : (w : World) (m : ℕ) (f : Envelope → World × Answer) → is_sent w m ≡ false → turned_away w ≡ with_message w m f
 unfolding with_message
 with_none w m f h = sym (ap (λ b. cond b (f (message_at w m)) (turned_away w)) h)
-
--- the state of one box of many, and of none
-pub state_here : (y : Yard) (es : List Envelope) (xs : List held.Station) (n : BoxNumber) (x : held.Station) (b : SignalBox) → n.0 < length xs → x ≡ get_or xs n.0 x → b ≡ x.state
-    → Some (state_of b) ≡ state_at (world y xs es) n
-state_here y es xs n x b l e q =
-    ap (λ c. Some (state_of c)) q ∙ (ap (λ (s : Station). Some s.state) (sym (here y xs n x l e))
-    ∙ sym (ap (λ t. cond t (Some (get_or (map station_of xs) n.0 (fresh_station y n)).state) None) (inside xs n l)))
-
-pub no_state : (y : Yard) (es : List Envelope) (xs : List held.Station) (n : BoxNumber) → length xs ≤ n.0 → None ≡ state_at (world y xs es) n
-no_state y es xs n l =
-    let outside : ltb n.0 (length (map station_of xs)) ≡ false = rw (length-map xs station_of) (le-ltb n.0 (length xs) l) in
-    sym (ap (λ t. cond t (Some (get_or (map station_of xs) n.0 (fresh_station y n)).state) None) outside)

@@ -1,5 +1,6 @@
 // From a file to the box that it stands for, or to the byte at which it is damaged.
-ghost use Rattle.std.specs.Prelude.{◌≡◌, ℕ, ◌^◌, ◌<◌, List, length as size, take, IfOk, OnOk};
+ghost use Rattle.std.specs.Prelude.{◌≡◌, ℕ, ◌^◌, ◌<◌, List, length as size, take, sum_by, IfOk, OnOk};
+ghost use Rattle.messages.specs.Table.{record_bytes};
 ghost use Rattle.messages.specs.Journal.{written};
 ghost use Rattle.journal.specs.Effect.{said_of};
 ghost use Rattle.boxes.specs.Handle.{reminders_of};
@@ -12,19 +13,23 @@ use journal::{Effects, Fault, File, OpenFault, Said, cut_back, read_back};
 use messages::{BoxNumber, Record, Replay, Yard, encode_record};
 use std::alloc::Global;
 
+// How many bytes records take.
+fn bytes_of(records: &[Record]) -> usize
+    requires { sum_by (λ r. size (record_bytes r)) records.now < 2 ^ 64 }
+    ensures { result ≡ sum_by (λ r. size (record_bytes r)) records.now }
+{
+    records
+        .iter()
+        .map(|record| encode_record(*record).as_slice().len())
+        .sum()
+}
+
 // The byte at which a record begins; past the last, where they end.
 fn byte_of(records: &[Record], index: usize) -> usize
     requires { size (written records.now) < 2 ^ 64 }
     ensures { result ≡ size (written (take index records.now)) }
 {
-    let mut at = 0;
-    for (i, record) in records.iter().enumerate() {
-        if i == index {
-            return at;
-        }
-        at += encode_record(*record).as_slice().len();
-    }
-    at
+    bytes_of(&records[..index.min(records.len())])
 }
 
 // The box that records stand for, or the byte of the first that it couldn't have written.
@@ -32,10 +37,9 @@ fn stand_for(yard: Yard, number: BoxNumber, records: &[Record]) -> Result<Signal
     requires { size (written records.now) < 2 ^ 64 }
     ensures { StandsFor yard number records.now result }
 {
-    match SignalBox::open(yard, number, records) {
-        Ok(state) => Ok(state),
-        Err(index) => Err(OpenFault::Damaged(byte_of(records, index))),
-    }
+    SignalBox::open(yard, number, records)
+        .map_err(|unwritten| byte_of(records, unwritten.index))
+        .map_err(OpenFault::Damaged)
 }
 
 // Who was told to give back and still holds a section. Nothing is recorded.
@@ -44,14 +48,7 @@ fn say_reminders<F: File>(state: &SignalBox, file: &mut F, heap: Global) -> Resu
     ensures kept { (xs : List ℕ) → F.File.holds file.old xs (size xs) → F.File.holds file.new xs (size xs) }
     ensures settled { F.File.settled file.old → OnOk result (F.File.settled file.new) }
 {
-    let mut effects = Effects::new(heap);
-    match state.remind(&mut effects) {
-        Ok(()) => effects.commit(file),
-        Err(fault) => {
-            effects.abandon();
-            Err(fault)
-        }
-    }
+    Effects::gather(heap, &mut (), |_, effects| state.remind(effects))?.commit(file)
 }
 
 // What the file stands for; it isn't changed.
@@ -63,13 +60,9 @@ fn read_up<F: File>(
 ) -> Result<Standing, OpenFault>
     ensures { (xs : List ℕ) (n : ℕ) → F.File.holds file.old xs n → F.File.holds file.new xs n × ReadUp yard number xs result }
 {
-    match read_back(file, yard, heap) {
-        Ok(Replay { records, length }) => match stand_for(yard, number, records.as_slice()) {
-            Ok(state) => Ok(Standing { state, length }),
-            Err(fault) => Err(fault),
-        },
-        Err(fault) => Err(fault),
-    }
+    let Replay { records, length } = read_back(file, yard, heap)?;
+    let state = stand_for(yard, number, records.as_slice())?;
+    Ok(Standing { state, length })
 }
 
 // The box that the file stands for. What a stop cut short is cut away; damage is left as it is.
@@ -82,19 +75,8 @@ pub fn come_up<F: File>(
     ensures up { (xs : List ℕ) (n : ℕ) → F.File.holds file.old xs n → ComesUp yard number xs n (F.File.holds file.new) result }
     ensures settled { OnOk result (F.File.settled file.new) }
 {
-    let standing = match read_up(file, yard, number, heap) {
-        Ok(standing) => standing,
-        Err(fault) => return Err(fault),
-    };
-    match cut_back(file, standing.length) {
-        Ok(()) => {}
-        Err(fault) => return Err(OpenFault::Fault(fault)),
-    }
-    match say_reminders(&standing.state, file, heap) {
-        Ok(said) => Ok(CameUp {
-            state: standing.state,
-            said,
-        }),
-        Err(fault) => Err(OpenFault::Fault(fault)),
-    }
+    let Standing { state, length } = read_up(file, yard, number, heap)?;
+    cut_back(file, length)?;
+    let said = say_reminders(&state, file, heap)?;
+    Ok(CameUp { state, said })
 }

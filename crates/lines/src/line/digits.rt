@@ -29,10 +29,9 @@ fn digit(c: u8) -> Option<u8>
     ensures value { result ≡ digit_of c }
     ensures small { Below 10 result }
 {
-    if c >= b'0' && c <= b'9' {
-        Some(c - b'0')
-    } else {
-        None
+    match c {
+        b'0'..=b'9' => Some(c - b'0'),
+        0..=47 | 58..=255 => None,
     }
 }
 

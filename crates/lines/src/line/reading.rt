@@ -1,7 +1,7 @@
 // From a line to what it says.
-ghost use Rattle.std.specs.Prelude.{◌≡◌, ◌<◌, ◌≤◌, true, length, drop};
-ghost use Rattle.std.specs.Option.{ok_or};
-ghost use Rattle.lines.specs.Lines.{answered, is_at, is_free, is_second, is_take, line_of, message_in, place_of, sent_of, shown, wish_of};
+ghost use Rattle.std.specs.Prelude.{◌≡◌};
+ghost use Rattle.std.specs.Option.{ok_or, option_map};
+ghost use Rattle.lines.specs.Lines.{answered, line_of, message_in, past, place_of, sent_of, shown, wish_of};
 ghost use Rattle.lines.specs.Written.{held};
 
 use crate::line::digits::{hex_value, number};
@@ -12,62 +12,24 @@ use messages::{Refusal, Section, Yard};
 pub fn read(yard: Yard, line: &[u8]) -> Result<Line, Refusal>
     ensures { answered result ≡ ok_or (line_of yard line.now) Refusal.Malformed }
 {
-    match whole(yard, line) {
-        Some(line) => Ok(line),
-        None => Err(Refusal::Malformed),
-    }
+    whole(yard, line).ok_or(Refusal::Malformed)
 }
 
 fn whole(yard: Yard, line: &[u8]) -> Option<Line>
     ensures { shown result ≡ line_of yard line.now }
 {
-    if is_take(line) {
-        let wish = wish(yard, rest(line, 5))?;
-        return Some(Line::Take {
-            engine: wish.engine,
-            section: wish.section,
-        });
+    if let Some(text) = line.strip_prefix(b"take ") {
+        let Wish { engine, section } = wish(yard, text)?;
+        return Some(Line::Take { engine, section });
     }
-    if is_free(line) {
-        let wish = wish(yard, rest(line, 5))?;
-        return Some(Line::Free {
-            engine: wish.engine,
-            section: wish.section,
-        });
+    if let Some(text) = line.strip_prefix(b"free ") {
+        let Wish { engine, section } = wish(yard, text)?;
+        return Some(Line::Free { engine, section });
     }
-    if is_second(line) {
+    if line == b"second".as_slice() {
         return Some(Line::Second);
     }
     sent(yard, line)
-}
-
-fn is_take(line: &[u8]) -> bool
-    ensures value { result ≡ is_take line.now }
-    ensures inside { result ≡ true → 5 ≤ length line.now }
-{
-    match line {
-        [b't', b'a', b'k', b'e', b' ', ..] => true,
-        _ => false,
-    }
-}
-
-fn is_free(line: &[u8]) -> bool
-    ensures value { result ≡ is_free line.now }
-    ensures inside { result ≡ true → 5 ≤ length line.now }
-{
-    match line {
-        [b'f', b'r', b'e', b'e', b' ', ..] => true,
-        _ => false,
-    }
-}
-
-fn is_second(line: &[u8]) -> bool
-    ensures { result ≡ is_second line.now }
-{
-    match line {
-        [b's', b'e', b'c', b'o', b'n', b'd'] => true,
-        _ => false,
-    }
 }
 
 // An engine and a section, `E B:P`.
@@ -75,12 +37,9 @@ fn wish(yard: Yard, text: &[u8]) -> Option<Wish>
     ensures { result ≡ wish_of yard text.now }
 {
     let engine = number(text)?;
-    let width = engine.width;
-    if !stands_at(text, width, b' ') {
-        return None;
-    }
+    let rest = past(b' ', engine.width, text)?;
     let engine = yard.engine(engine.value)?;
-    let section = section(yard, rest(text, width + 1))?;
+    let section = section(yard, rest)?;
     Some(Wish { engine, section })
 }
 
@@ -89,13 +48,9 @@ fn section(yard: Yard, text: &[u8]) -> Option<Section>
     ensures { result ≡ place_of yard text.now }
 {
     let keeper = number(text)?;
-    let width = keeper.width;
-    if !stands_at(text, width, b':') {
-        return None;
-    }
-    let end = rest(text, width + 1);
-    let place = number(end)?;
-    if place.width != end.len() {
+    let rest = past(b':', keeper.width, text)?;
+    let place = number(rest)?;
+    if place.width != rest.len() {
         return None;
     }
     yard.section(keeper.value, place.value)
@@ -106,27 +61,20 @@ fn sent(yard: Yard, text: &[u8]) -> Option<Line>
     ensures { shown result ≡ sent_of yard text.now }
 {
     let from = number(text)?;
-    let width = from.width;
-    if !stands_at(text, width, b' ') {
-        return None;
-    }
+    let rest = past(b' ', from.width, text)?;
     let from = yard.box_number(from.value)?;
-    let message = message(rest(text, width + 1))?;
+    let message = message(rest)?;
     Some(Line::Message { from, message })
 }
 
-fn stands_at(text: &[u8], at: usize, c: u8) -> bool
-    ensures value { result ≡ is_at c at text.now }
-    ensures inside { result ≡ true → at < length text.now }
+// What follows the byte `c` that has to stand at a place.
+fn past(c: u8, at: usize, text: &[u8]) -> Option<&[u8]>
+    ensures { option_map (λ rest. rest.now) result ≡ past c at text.now }
 {
-    at < text.len() && text[at] == c
-}
-
-fn rest(text: &[u8], from: usize) -> &[u8]
-    requires { from ≤ length text.now }
-    ensures { result.now ≡ drop from text.now }
-{
-    &text[from..]
+    let [first, rest @ ..] = text.get(at..)? else {
+        return None;
+    };
+    (*first == c).then_some(rest)
 }
 
 // The bytes of a message, two digits for each.

@@ -15,31 +15,28 @@ pub fn write(to: BoxNumber, message: &[u8]) -> Option<Buffer>
     if to.0 > 99 || message.len() > 21 {
         return None;
     }
-    let out = Buffer::empty().decimal(to.0).byte(b' ');
-    Some(out.hex(message))
+    let out = decimal(Buffer::empty(), to.0).byte(b' ');
+    Some(hex(out, message))
 }
 
-impl Buffer {
-    fn decimal(self, n: u8) -> Buffer
-        requires { (n ≤ 99) × (self.used + 2 ≤ 45) }
-        ensures bytes { bytes_of result ≡ bytes_of self ++ decimal n }
-        ensures used { result.used ≤ self.used + 2 }
-    {
-        if n < 10 {
-            self.byte(b'0' + n)
-        } else {
-            self.byte(b'0' + n / 10).byte(b'0' + n % 10)
-        }
+fn decimal(out: Buffer, n: u8) -> Buffer
+    requires { (n ≤ 99) × (out.used + 2 ≤ 45) }
+    ensures bytes { bytes_of result ≡ bytes_of out ++ decimal n }
+    ensures used { result.used ≤ out.used + 2 }
+{
+    if n < 10 {
+        out.byte(b'0' + n)
+    } else {
+        out.byte(b'0' + n / 10).byte(b'0' + n % 10)
     }
+}
 
-    fn hex(self, message: &[u8]) -> Buffer
-        requires { self.used + 2 * length message.now ≤ 45 }
-        ensures { bytes_of result ≡ bytes_of self ++ hex_of message.now }
-    {
-        let mut out = self;
-        for b in message {
-            out = out.byte(hex_digit(*b / 16)).byte(hex_digit(*b % 16));
-        }
-        out
+fn hex(mut out: Buffer, message: &[u8]) -> Buffer
+    requires { out.used + 2 * length message.now ≤ 45 }
+    ensures { bytes_of result ≡ bytes_of out ++ hex_of message.now }
+{
+    for b in message {
+        out = out.byte(hex_digit(*b / 16)).byte(hex_digit(*b % 16));
     }
+    out
 }

@@ -1,12 +1,12 @@
 // From bytes to records, and back.
 ghost use Rattle.std.specs.Prelude.{◌≡◌};
-ghost use Rattle.messages.specs.Journal.{FirstIs, ReadIs, act_of, beginning_of, heard_of, kept_of, made_of, record_of, size_of, whole_call};
+ghost use Rattle.messages.specs.Journal.{FirstIs, ReadIs, beginning_of, heard_of, record_of, size_of};
 ghost use Rattle.messages.specs.Table.{record_bytes};
 ghost use Rattle.messages.specs.Written.{encoded};
 
-use crate::decoder::{call, eight_at, four_at};
+use crate::decoder::{eight_at, four_at, whole_call};
 use crate::encoded::Encoded;
-use crate::message::{Act, Beginning, Call, Record};
+use crate::message::{Beginning, Record};
 use crate::records::{First, Replay, Unread};
 use crate::yard::Yard;
 use std::alloc::Global;
@@ -56,15 +56,13 @@ pub fn read_records(heap: Global, yard: Yard, bytes: &[u8]) -> Result<Replay, Un
 {
     let mut records = Vec::new(heap);
     let mut length = 0usize;
-    'next: loop {
+    loop {
         match first_record(yard, &bytes[length..]) {
             First::Whole {
                 record,
                 length: more,
             } => {
-                let Ok(()) = records.push(record) else {
-                    return Err(Unread::NoMemory);
-                };
+                records.push(record)?;
                 length += more;
             }
             First::Cut => return Ok(Replay { records, length }),
@@ -82,54 +80,43 @@ fn whole_record(yard: Yard, bytes: &[u8]) -> Option<Record>
     match *first {
         8 => beginning(yard, rest),
         9 => heard(yard, rest),
-        10 => made(yard, rest),
-        1..=3 => kept(yard, bytes),
+        10 => whole_call(yard, rest).map(Record::Made),
+        1..=3 => whole_call(yard, bytes).map(Record::Kept),
         0 | 4..=7 | 11..=255 => None,
-    }
-}
-
-fn made(yard: Yard, rest: &[u8]) -> Option<Record>
-    ensures { result ≡ made_of yard rest.now }
-{
-    Some(Record::Made(whole_call(yard, rest)?))
-}
-
-fn kept(yard: Yard, bytes: &[u8]) -> Option<Record>
-    ensures { result ≡ kept_of yard bytes.now }
-{
-    Some(Record::Kept(whole_call(yard, bytes)?))
-}
-
-fn whole_call(yard: Yard, bytes: &[u8]) -> Option<Call>
-    ensures { result ≡ whole_call yard bytes.now }
-{
-    let [first, rest @ ..] = bytes else {
-        return None;
-    };
-    let act = act_of(*first)?;
-    call(yard, act, rest)
-}
-
-fn act_of(first: u8) -> Option<Act>
-    ensures { result ≡ act_of first }
-{
-    match first {
-        1 => Some(Act::Take),
-        2 => Some(Act::Free),
-        3 => Some(Act::GiveUp),
-        0 | 4..=255 => None,
     }
 }
 
 fn beginning(yard: Yard, rest: &[u8]) -> Option<Record>
     ensures { result ≡ beginning_of yard rest.now }
 {
-    if rest.len() != 20 {
+    let [
+        engine,
+        keeper,
+        place,
+        _,
+        _,
+        _,
+        _,
+        holder,
+        _,
+        _,
+        _,
+        _,
+        _,
+        _,
+        _,
+        _,
+        _,
+        _,
+        _,
+        _,
+    ] = rest
+    else {
         return None;
-    }
-    let engine = yard.engine(rest[0])?;
-    let section = yard.section(rest[1], rest[2])?;
-    let holder = yard.engine(rest[7])?;
+    };
+    let engine = yard.engine(*engine)?;
+    let section = yard.section(*keeper, *place)?;
+    let holder = yard.engine(*holder)?;
     let change = four_at(rest, 3);
     let count = four_at(rest, 8);
     let own = eight_at(rest, 12);

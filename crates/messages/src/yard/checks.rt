@@ -13,43 +13,30 @@ impl Yard {
     pub fn new(boxes: u8, engines: u8) -> Option<Yard>
         ensures { YardMade boxes engines result }
     {
-        if boxes == 0 || boxes > MOST_BOXES || engines == 0 || engines > MOST_ENGINES {
-            return None;
+        if (1..=MOST_BOXES).contains(&boxes) && (1..=MOST_ENGINES).contains(&engines) {
+            Some(Yard { boxes, engines })
+        } else {
+            None
         }
-        Some(Yard { boxes, engines })
     }
 
     pub fn engine(self, number: u8) -> Option<Engine>
         ensures { result ≡ engine_of self number }
     {
-        if number < self.engines {
-            Some(Engine(number))
-        } else {
-            None
-        }
+        (number < self.engines).then_some(Engine(number))
     }
 
     pub fn box_number(self, number: u8) -> Option<BoxNumber>
         ensures { result ≡ box_of self number }
     {
-        if number < self.boxes {
-            Some(BoxNumber(number))
-        } else {
-            None
-        }
+        (number < self.boxes).then_some(BoxNumber(number))
     }
 
     pub fn section(self, keeper: u8, place: u8) -> Option<Section>
         ensures { result ≡ section_of self keeper place }
     {
-        if keeper < self.boxes && place < PLACES {
-            Some(Section {
-                keeper: BoxNumber(keeper),
-                place,
-            })
-        } else {
-            None
-        }
+        let keeper = self.box_number(keeper)?;
+        (place < PLACES).then_some(Section { keeper, place })
     }
 
     // The home of an engine: the box that its number leaves when divided by the number of boxes.
@@ -66,7 +53,6 @@ impl Yard {
         if number == NOBODY {
             return Some(None);
         }
-        let engine = self.engine(number)?;
-        Some(Some(engine))
+        self.engine(number).map(Some)
     }
 }

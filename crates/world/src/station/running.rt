@@ -1,5 +1,6 @@
 // Inputs at a box: its records are stored, and only then is anything said.
-ghost use Rattle.std.specs.Prelude.{◌≡◌, IfOk};
+ghost use Rattle.std.specs.Prelude.{◌≡◌, ℕ, List, IfOk};
+ghost use Rattle.messages.specs.Journal.{Holds, written};
 ghost use Rattle.journal.specs.Effect.{said_of};
 ghost use Rattle.journal.specs.Memory.{held_by};
 ghost use Rattle.boxes.specs.Log.{log_of, none};
@@ -10,7 +11,7 @@ ghost use Rattle.world.specs.Station.{Restarts, committed, delivered_at, fresh_s
 use crate::station::Station;
 use boxes::{Input, SignalBox};
 use journal::{Effects, Fault, MemoryFile, OpenFault, Said, open};
-use messages::{BoxNumber, Yard};
+use messages::{BoxNumber, Record, Yard};
 use std::alloc::Global;
 
 impl Station {
@@ -34,26 +35,20 @@ impl Station {
     fn commit(&mut self, effects: Effects, heap: Global) -> Result<Said, OpenFault>
         ensures { IfOk result (λ said. (station_of self.new, said_of said) ≡ committed (held_by self.old.file) (state_of self.old.state, log_of effects)) }
     {
-        match effects.commit(&mut self.file) {
-            Ok(said) => Ok(said),
-            Err(fault) => {
-                self.file = MemoryFile::new(heap);
-                Err(OpenFault::Fault(fault))
-            }
+        let said = effects.commit(&mut self.file);
+        if said.is_err() {
+            self.file = MemoryFile::new(heap);
         }
+        Ok(said?)
     }
 
     pub(crate) fn handle(&mut self, input: Input, heap: Global) -> Result<Said, OpenFault>
         ensures { IfOk result (λ said. (station_of self.new, said_of said) ≡ handled_at input (station_of self.old)) }
     {
-        let mut effects = Effects::new(heap);
-        match self.state.handle(input, &mut effects) {
-            Ok(()) => self.commit(effects, heap),
-            Err(fault) => {
-                effects.abandon();
-                Err(OpenFault::Fault(fault))
-            }
-        }
+        let effects = Effects::gather(heap, &mut self.state, |state, effects| {
+            state.handle(input, effects)
+        })?;
+        self.commit(effects, heap)
     }
 
     pub(crate) fn deliver(
@@ -64,27 +59,31 @@ impl Station {
     ) -> Result<Said, OpenFault>
         ensures { IfOk result (λ said. (station_of self.new, said_of said) ≡ delivered_at from bytes.now (station_of self.old)) }
     {
-        let mut effects = Effects::new(heap);
-        match self.state.deliver(from, bytes, &mut effects) {
-            Ok(()) => self.commit(effects, heap),
-            Err(fault) => {
-                effects.abandon();
-                Err(OpenFault::Fault(fault))
-            }
-        }
+        let effects = Effects::gather(heap, &mut self.state, |state, effects| {
+            state.deliver(from, bytes, effects)
+        })?;
+        self.commit(effects, heap)
     }
 
     fn remind(&mut self, heap: Global) -> Result<Said, OpenFault>
         ensures { IfOk result (λ said. (station_of self.new, said_of said) ≡ committed (held_by self.old.file) (state_of self.old.state, reminders_of self.old.state.home none)) }
     {
-        let mut effects = Effects::new(heap);
-        match self.state.remind(&mut effects) {
-            Ok(()) => self.commit(effects, heap),
-            Err(fault) => {
-                effects.abandon();
-                Err(OpenFault::Fault(fault))
-            }
+        let effects = Effects::gather(heap, &mut self.state, |state, effects| {
+            state.remind(effects)
+        })?;
+        self.commit(effects, heap)
+    }
+
+    // The records of its file, opened again. After a fault the file is left empty.
+    fn read_again(&mut self, yard: Yard, heap: Global) -> Result<Vec<Record>, OpenFault>
+        ensures state { self.new.state ≡ self.old.state }
+        ensures records { IfOk result (λ rs. (rest : List ℕ) × Holds yard (held_by self.old.file) rs.items rest × (held_by self.new.file ≡ written rs.items)) }
+    {
+        let records = open(&mut self.file, yard, heap);
+        if records.is_err() {
+            self.file = MemoryFile::new(heap);
         }
+        records
     }
 
     // The box stops, and comes up as its file says.
@@ -96,18 +95,8 @@ impl Station {
     ) -> Result<Said, OpenFault>
         ensures { IfOk result (λ said. Restarts yard number (station_of self.old) (station_of self.new, said_of said)) }
     {
-        match open(&mut self.file, yard, heap) {
-            Ok(records) => match SignalBox::open(yard, number, records.as_slice()) {
-                Ok(state) => {
-                    self.state = state;
-                    self.remind(heap)
-                }
-                Err(index) => Err(OpenFault::Damaged(index)),
-            },
-            Err(fault) => {
-                self.file = MemoryFile::new(heap);
-                Err(fault)
-            }
-        }
+        let records = self.read_again(yard, heap)?;
+        self.state = SignalBox::open(yard, number, records.as_slice()).map_err(|unwritten| OpenFault::Damaged(unwritten.index))?;
+        self.remind(heap)
     }
 }

@@ -3,9 +3,10 @@ ghost use Rattle.std.specs.Prelude.{◌≡◌, List, [], ◌∷◌, ◌++◌, ma
 ghost use Rattle.std.specs.Option.{option_map};
 ghost use Rattle.boxes.specs.Model.{state_of};
 ghost use Rattle.std.specs.List.{flat_map};
-ghost use Rattle.world.specs.Station.{delivered_at, handled_at};
+ghost use Rattle.world.specs.Station.{Restarts, delivered_at, handled_at, station_of};
 ghost use Rattle.world.specs.World.{Makes, Stops, answer_of, at_box, carried, carried_cut, cut_of, deliver_of, empty, envelope_for, envelope_of, free_of, second_of, sent_by, spoken, state_at, take_of, world_of};
 ghost use Rattle.journal.specs.Effect.{said_of};
+ghost use Rattle.world.specs.Turn.{Turned, TurnsAt};
 ghost use Rattle.world.specs.World.{Found};
 
 use crate::envelope::Envelope;
@@ -13,7 +14,7 @@ use crate::station::Station;
 use crate::step::{Outcome, Step};
 use crate::world::World;
 use boxes::{Input, SignalBox};
-use journal::{Fault, OpenFault, Output, Said};
+use journal::{OpenFault, Output, Said};
 use messages::{BoxNumber, Engine, Message, Refusal, Section, Yard, encode};
 use std::alloc::{AllocError, Global};
 
@@ -27,22 +28,17 @@ fn post(
     ensures { OnOk result (map envelope_of sent.new.items ≡ map envelope_of sent.old.items ++ envelope_for from to message ∷ []) }
 {
     let bytes = encode(message);
-    match sent.push(Envelope { from, to, bytes }) {
-        Ok(()) => Ok(()),
-        Err(_) => Err(OpenFault::Fault(Fault::Memory)),
-    }
+    sent.push(Envelope { from, to, bytes })?;
+    Ok(())
 }
 
 // Adds what an output of a box sends.
 fn send(sent: &mut Vec<Envelope>, from: BoxNumber, output: Output) -> Result<(), OpenFault>
     ensures { OnOk result (map envelope_of sent.new.items ≡ map envelope_of sent.old.items ++ sent_by from output) }
 {
-    match output {
-        Output::Send { to, message } => post(sent, from, to, message),
-        Output::Had { .. }
-        | Output::GiveBack { .. }
-        | Output::GivingBack { .. }
-        | Output::Refused(_) => Ok(()),
+    match output.sent() {
+        Some((to, message)) => post(sent, from, to, message),
+        None => Ok(()),
     }
 }
 
@@ -89,10 +85,7 @@ impl World {
     pub fn signal_box(&self, number: BoxNumber) -> Option<&SignalBox>
         ensures { option_map (λ b. state_of b.now) result ≡ state_at (world_of self.now) number }
     {
-        if number.0 as usize >= self.stations.len() {
-            return None;
-        }
-        Some(self.stations[number.0 as usize].state())
+        Some(self.stations.get(usize::from(number.0))?.state())
     }
 
     fn say(&mut self, from: BoxNumber, said: Said) -> Result<Outcome, OpenFault>
@@ -103,14 +96,27 @@ impl World {
         Ok(Outcome::Said { from, before, said })
     }
 
+    // A turn of one box: what it says is sent from there.
+    fn turn_at<F: FnOnce(&mut Station) -> Result<Said, OpenFault>>(
+        &mut self,
+        at: BoxNumber,
+        turn: F,
+    ) -> Result<Outcome, OpenFault>
+        requires { F.IsAlwaysCallable turn }
+        ensures { IfOk result (λ out. TurnsAt (world_of self.old) at (Turned F.FnOnce turn) (world_of self.new, answer_of out)) }
+    {
+        let Some(station) = self.stations.get_mut(usize::from(at.0)) else {
+            return Ok(Outcome::Refused(Refusal::Malformed));
+        };
+        let said = turn(station)?;
+        self.say(at, said)
+    }
+
     fn handle_at(&mut self, at: BoxNumber, input: Input) -> Result<Outcome, OpenFault>
         ensures { IfOk result (λ out. (world_of self.new, answer_of out) ≡ at_box (world_of self.old) at (handled_at input)) }
     {
-        if at.0 as usize >= self.stations.len() {
-            return Ok(Outcome::Refused(Refusal::Malformed));
-        }
-        let said = self.stations[at.0 as usize].handle(input, self.heap)?;
-        self.say(at, said)
+        let heap = self.heap;
+        self.turn_at(at, |station| station.handle(input, heap))
     }
 
     fn deliver_at(
@@ -121,25 +127,15 @@ impl World {
     ) -> Result<Outcome, OpenFault>
         ensures { IfOk result (λ out. (world_of self.new, answer_of out) ≡ at_box (world_of self.old) at (delivered_at from bytes.now)) }
     {
-        if at.0 as usize >= self.stations.len() {
-            return Ok(Outcome::Refused(Refusal::Malformed));
-        }
-        let said = self.stations[at.0 as usize].deliver(from, bytes, self.heap)?;
-        self.say(at, said)
+        let heap = self.heap;
+        self.turn_at(at, |station| station.deliver(from, bytes, heap))
     }
 
     // A message by its number, from 1 on.
     fn message(&self, number: usize) -> Option<Envelope>
         ensures { Found (world_of self.now) number result }
     {
-        if number == 0 {
-            return None;
-        }
-        let at = number - 1;
-        if at >= self.sent.len() {
-            return None;
-        }
-        Some(self.sent[at])
+        self.sent.get(number.checked_sub(1)?).copied()
     }
 
     fn carry(&mut self, envelope: Envelope) -> Result<Outcome, OpenFault>
@@ -202,11 +198,14 @@ impl World {
     pub fn stop(&mut self, at: BoxNumber) -> Result<Outcome, OpenFault>
         ensures { IfOk result (λ out. Stops (world_of self.old) at (world_of self.new, answer_of out)) }
     {
-        if at.0 as usize >= self.stations.len() {
-            return Ok(Outcome::Refused(Refusal::Malformed));
-        }
-        let said = self.stations[at.0 as usize].stop(self.yard, at, self.heap)?;
-        self.say(at, said)
+        let heap = self.heap;
+        let yard = self.yard;
+        self.turn_at(
+            at,
+            move |station: &mut Station| -> Result<Said, OpenFault>
+                ensures { IfOk result (λ said. Restarts yard at (station_of station.old) (station_of station.new, said_of said)) }
+            { station.stop(yard, at, heap) },
+        )
     }
 
     pub fn play(&mut self, step: Step) -> Result<Outcome, OpenFault>

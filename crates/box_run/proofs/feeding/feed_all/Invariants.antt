@@ -6,9 +6,9 @@ use Rattle.box_run.specs.Lines.{lines_in}
 use Rattle.box_run.specs.Serve.{FedEach}
 use Rattle.box_run.proofs.feeding.feed_all.Given as goal
 
-abbrev pub invariant-loop-rest : goal.invariant-loop-rest
-invariant-loop-rest l = (q : State × Log) → FedEach (lines_in l.rest) (state_of l.state, log_of l.effects) q
+abbrev pub invariant-loop-line : goal.invariant-loop-line
+invariant-loop-line l = (q : State × Log) → FedEach (lines_in l.rest) (state_of l.state, log_of l.effects) q
     → FedEach (lines_in l.text) (state_of l.initial.state, log_of l.initial.effects) q
 
-abbrev pub decreases-loop-rest : goal.decreases-loop-rest
-decreases-loop-rest l = length l.rest
+abbrev pub decreases-loop-line : goal.decreases-loop-line
+decreases-loop-line l = length l.rest

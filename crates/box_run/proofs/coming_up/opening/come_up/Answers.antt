@@ -1,47 +1,37 @@
 -- The file is cut to the whole records, and the reminders leave it as it is.
-use Rattle.std.proofs.Common.{ℕ, List, length, subst}
+use Rattle.std.proofs.Common.{ℕ, List, length, Err, Result, sym, ap, ◌∙◌, subst}
+use Rattle.std.proofs.lemmas.Result.{err_from_is_err_and}
+use Rattle.journal.specs.declared.opening.OpenFault.{OpenFault}
 use Rattle.journal.proofs.Stopping.{trimmed, whole_left}
+use Rattle.box_run.specs.declared.coming_up.CameUp.{CameUp}
+use Rattle.box_run.specs.Opening.{ComesUp}
 use Rattle.box_run.proofs.Upward.{not_up, whole_there}
 use Rattle.box_run.proofs.coming_up.opening.come_up.Goals as goal
 
-pub returns-in-Err : goal.returns-in-Err
-returns-in-Err g c = record {
-  up = λ xs n h. let f = c.in-Err.ensures xs n h in not_up c.args.yard c.args.number xs n (g.F.File.holds c.read_up.new.file) c.in-Err.fault f.0 f.1;
-  settled = tt;
-}
+pub returns-in_err-state-clause-up : goal.returns-in_err-state-clause-up
+returns-in_err-state-clause-up g c = λ xs n h.
+    let after = g.F.File.holds c.read_up.new.file in
+    let f = c.in_err-state.ensures xs n h in
+    let r = err_from_is_err_and c.from_residual.result c.from_residual.ensures.1 in
+    let P : Result CameUp OpenFault → Type 0 = ComesUp c.args.yard c.args.number xs n after in
+    subst P (sym (r.1 ∙ ap Err r.2)) (not_up c.args.yard c.args.number xs n after _ f.0 f.1)
 
-pub returns-in-Err-cut_back : goal.returns-in-Err-cut_back
-returns-in-Err-cut_back g c = record {
-  up = λ xs n h.
-      let f = c.in-Ok.ensures xs n h in
-      let w = whole_left c.args.yard xs _ _ _ f.1.2 f.1.4 in
-      trimmed c.args.yard xs n _ _ _ (g.F.File.holds c.cut_back.new.file) f.1.2 f.1.4 (c.in-Err-cut_back.ensures.held xs n f.0 w.1);
-  settled = tt;
-}
+pub returns-in_err-cut_back-clause-up : goal.returns-in_err-cut_back-clause-up
+returns-in_err-cut_back-clause-up g c = λ xs n h.
+    let after = g.F.File.holds c.cut_back.new.file in
+    let f = c.in_ok-state.ensures xs n h in
+    let w = whole_left c.args.yard xs _ _ _ f.1.2 f.1.4 in
+    let r = err_from_is_err_and c.from_residual-in_err-cut_back.result c.from_residual-in_err-cut_back.ensures.1 in
+    let P : Result CameUp OpenFault → Type 0 = ComesUp c.args.yard c.args.number xs n after in
+    subst P (sym (r.1 ∙ ap Err r.2)) (trimmed c.args.yard xs n _ _ _ after f.1.2 f.1.4 (c.in_err-cut_back.ensures.held xs n f.0 w.1))
 
-pub returns-in-Ok-say_reminders : goal.returns-in-Ok-say_reminders
-returns-in-Ok-say_reminders g c = record {
-  up = λ xs n h.
-      let f = c.in-Ok.ensures xs n h in
-      let w = whole_left c.args.yard xs _ _ _ f.1.2 f.1.4 in
-      let P : List ℕ → Type 0 = λ l. g.F.File.holds c.cut_back.new.file l (length l) in (
-        f.1.0,
-        f.1.1,
-        f.1.2,
-        f.1.3,
-        c.in-Ok-say_reminders.ensures.said,
-        c.in-Ok-say_reminders.ensures.kept _ (subst P w.0 (c.in-Ok-cut_back.ensures.held xs n f.0 w.1)),
-      );
-  settled = c.in-Ok-say_reminders.ensures.settled c.in-Ok-cut_back.ensures.settled;
-}
-
-pub returns-in-Err-say_reminders : goal.returns-in-Err-say_reminders
-returns-in-Err-say_reminders g c = record {
-  up = λ xs n h.
-      let f = c.in-Ok.ensures xs n h in
-      let w = whole_left c.args.yard xs _ _ _ f.1.2 f.1.4 in
-      let P : List ℕ → Type 0 = λ l. g.F.File.holds c.cut_back.new.file l (length l) in
-      whole_there c.args.yard xs n _ _ _ (g.F.File.holds c.say_reminders.new.file) f.1.2 f.1.4
-      (c.in-Err-say_reminders.ensures.kept _ (subst P w.0 (c.in-Ok-cut_back.ensures.held xs n f.0 w.1)));
-  settled = tt;
-}
+pub returns-in_err-said-clause-up : goal.returns-in_err-said-clause-up
+returns-in_err-said-clause-up g c = λ xs n h.
+    let after = g.F.File.holds c.say_reminders.new.file in
+    let f = c.in_ok-state.ensures xs n h in
+    let w = whole_left c.args.yard xs _ _ _ f.1.2 f.1.4 in
+    let r = err_from_is_err_and c.from_residual-in_err-said.result c.from_residual-in_err-said.ensures.1 in
+    let P : Result CameUp OpenFault → Type 0 = ComesUp c.args.yard c.args.number xs n after in
+    let Q : List ℕ → Type 0 = λ l. g.F.File.holds c.cut_back.new.file l (length l) in
+    subst P (sym (r.1 ∙ ap Err r.2))
+    (whole_there c.args.yard xs n _ _ _ after f.1.2 f.1.4 (c.in_err-said.ensures.kept _ (subst Q w.0 (c.in_ok-cut_back.ensures.held xs n f.0 w.1))))

@@ -1,6 +1,0 @@
-use Rattle.std.proofs.Common.{rules}
-use Rattle.messages.proofs.Writing.{after}
-use Rattle.messages.proofs.encoded.Encoded.section.Goals as goal
-
-pub returns : goal.returns
-returns c = record { bytes = after _ _ _ c.byte.ensures.bytes c.byte-2.ensures.bytes; used = search rules }
