@@ -1,5 +1,5 @@
 -- A queue, and one number further: what is left to look at gives what all gives.
-use Rattle.std.proofs.Common.{◌≡◌, ℕ, zero, suc, ◌+◌, ◌-◌, ◌<◌, ◌≤◌, eqb, Bool, ◌||◌, List, [], ◌∷◌, Some, None, Option, sym, refl, ap, ◌∙◌, arith}
+use Rattle.std.proofs.Common.{◌≡◌, ℕ, zero, suc, ◌+◌, ◌-◌, ◌<◌, eqb, Bool, ◌||◌, List, [], ◌∷◌, None, Option, refl, ap, arith}
 use Rattle.sections.specs.Table.{is_in}
 use Rattle.std.specs.List.{list_any}
 use Rattle.port.specs.Walk.{first_from, or_else}

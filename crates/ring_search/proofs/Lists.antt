@@ -1,9 +1,11 @@
 -- Lists whose elements are apart: as many as numbers at most, and turned round they stay so.
 -- Assumes nothing.
-use Rattle.std.proofs.Common.{◌≡◌, ℕ, zero, suc, ◌<◌, ◌≤◌, ◌⊎◌, List, [], ◌∷◌, ◌++◌, length, sym, refl, ◌∙◌, inl, inr, arith}
+use Rattle.std.proofs.Common.{◌≡◌, ℕ, ◌<◌, ◌≤◌, Bool, true, false, ◌||◌, eqb, ◌⊎◌, List, [], ◌∷◌, ◌++◌, length, sym, refl, ap, ◌∙◌, inl, inr, arith}
 use mathlib.Core.List.Memᴰ
 use mathlib.Core.List.{Memᴰ}
-use Rattle.std.proofs.lemmas.Bool.{cases_eq, cases_lt}
+use Rattle.std.specs.List.{AllByRecursion, IsDistinct, list_any}
+use Rattle.std.proofs.lemmas.Bool.{cases_eq, cases_lt, ne_eqb}
+use Rattle.std.proofs.lemmas.Map.Steps.{length-le_from_distinct_below}
 use Rattle.ring_search.specs.Exactly.{Apart}
 
 pub mem_snoc : {A : Type 0} {a b : A} (xs : List A) → Memᴰ a (xs ++ b ∷ []) → Memᴰ a xs ⊎ (a ≡ b)
@@ -21,44 +23,26 @@ apart_snoc {b} (x ∷ xs) h f = (
   apart_snoc xs h.1 (λ m. f (Memᴰ.tail m)),
 )
 
--- without the highest number: one fewer at most
-strip : (n : ℕ) (xs : List ℕ) → Apart xs → ((y : ℕ) → Memᴰ y xs → y < suc n) →
-    (ys : List ℕ) × Apart ys × ((y : ℕ) → Memᴰ y ys → y < n) × (length xs ≤ suc (length ys)) × ((y : ℕ) → Memᴰ y ys → Memᴰ y xs)
-strip n [] h low = ([], tt, λ y m. absurd (Memᴰ.not-nil m), omega arith, λ y m. m)
-strip n (x ∷ xs) h low = go (strip n xs h.1 (λ y m. low y (Memᴰ.tail m))) (cases_eq x n)
-  where
-    go : (ys : List ℕ) × Apart ys × ((y : ℕ) → Memᴰ y ys → y < n) × (length xs ≤ suc (length ys)) × ((y : ℕ) → Memᴰ y ys → Memᴰ y xs) →
-        (x ≡ n) ⊎ (x ≡ n → ⊥) →
-        (ys : List ℕ) × Apart ys × ((y : ℕ) → Memᴰ y ys → y < n) × (length (x ∷ xs) ≤ suc (length ys)) × ((y : ℕ) → Memᴰ y ys → Memᴰ y (x ∷ xs))
-    go s (inl q) = (
-      xs,
-      h.1,
-      λ y m.
-          elim (cases_eq y n) [
-            | inl e ↦ absurd (h.0 (rw (q ∙ sym e) m))
-            | inr ne ↦ let l = low y (Memᴰ.tail m) in elim (cases_lt y n) [ inl k ↦ k | inr k ↦ absurd (ne (omega arith)) ]
-          ],
-      omega arith,
-      λ y m. Memᴰ.tail m,
-    )
-    go s (inr ne) = (
-      x ∷ s.0,
-      (λ m. h.0 (s.4 x m), s.1),
-      λ y m.
-          elim (Memᴰ.cases_cons m) [
-            | inl e ↦ let l = low x (Memᴰ.head refl) in elim (cases_lt x n) [ inl k ↦ rw e k | inr k ↦ absurd (ne (omega arith)) ]
-            | inr k ↦ s.2 y k
-          ],
-      omega (arith, s.3),
-      λ y m. elim (Memᴰ.cases_cons m) [ inl e ↦ Memᴰ.head e | inr k ↦ Memᴰ.tail (s.4 y k) ],
-    )
+differ : (x : ℕ) (xs : List ℕ) → (Memᴰ x xs → ⊥) → AllByRecursion (λ y. eqb x y ≡ false) xs
+differ x [] f = tt
+differ x (y ∷ ys) f = (ne_eqb x y (λ e. f (Memᴰ.head e)), differ x ys (λ m. f (Memᴰ.tail m)))
+
+distinct : (xs : List ℕ) → Apart xs → IsDistinct eqb xs
+unfolding IsDistinct
+distinct [] h = tt
+distinct (x ∷ xs) h = (differ x xs h.0, distinct xs h.1)
+
+member : (q : ℕ) (xs : List ℕ) → list_any (eqb q) xs ≡ true → Memᴰ q xs
+member q [] e = cc
+member q (x ∷ xs) e =
+    elim (cases_eq q x) [
+      | inl p ↦ Memᴰ.head p
+      | inr ne ↦ Memᴰ.tail (member q xs (sym (ap (λ (t : Bool). t || list_any (eqb q) xs) (ne_eqb q x ne)) ∙ e))
+    ]
 
 -- numbers below n, apart from one another, are at most n
 pub few : (n : ℕ) (xs : List ℕ) → Apart xs → ((y : ℕ) → Memᴰ y xs → y < n) → length xs ≤ n
-few zero [] h low = omega arith
-few zero (x ∷ xs) h low = let l = low x (Memᴰ.head refl) in absurd (omega arith)
-few (suc n) xs h low =
-    let s = strip n xs h low in omega (arith, s.3, few n s.0 s.1 s.2)
+few n xs h low = length-le_from_distinct_below xs n (distinct xs h) (λ q e. low q (member q xs e))
 
 -- the lowest of some numbers
 pub least : (x : ℕ) (xs : List ℕ) → (l : ℕ) × Memᴰ l (x ∷ xs) × ((y : ℕ) → Memᴰ y (x ∷ xs) → l ≤ y)

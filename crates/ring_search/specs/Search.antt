@@ -1,6 +1,8 @@
 -- The search for rings of waits: along waits from each engine, until it comes back.
 -- Assumes nothing.
-use Rattle.std.specs.Prelude.{ℕ, zero, suc, cond, fold, List, [], ◌∷◌, ◌++◌, Some, None, vec_items, Option, nat_eq, nat_lt}
+use Rattle.std.specs.Prelude.{ℕ, zero, suc, cond, fold, List, [], ◌∷◌, ◌++◌, Some, None, vec_items, Option, nat_eq, nat_lt, codes}
+use Rattle.std.specs.Fmt.{decimal}
+use Rattle.std.specs.List.{flat_map}
 use Rattle.signs.specs.Signs.{Wait}
 use Rattle.signs.specs.declared.table.Engines.{Engines}
 use Rattle.signs.specs.Table.{engine_at}
@@ -57,3 +59,7 @@ rings_below w own (suc n) = more (rings_below w own n) (ring_at w own n)
 -- what a ring of the code says
 abbrev pub model : Ring → Judged
 model r = record { engines = vec_items r.engines; finder = r.finder }
+
+-- `ring 0 1 2: 2 finds`
+abbrev pub text_of : Judged → List ℕ
+text_of r = codes "ring" ++ flat_map (λ e. codes " " ++ decimal e) r.engines ++ codes ": " ++ decimal r.finder ++ codes " finds"

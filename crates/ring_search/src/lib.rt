@@ -1,10 +1,10 @@
 // The rings of waits in a table of engines, and who finds each.
 #![tactic(auto)]
 
-ghost use Rattle.std.specs.Prelude.{◌≡◌, map, IfOk};
+ghost use Rattle.std.specs.Prelude.{◌≡◌, map, IfOk, Some};
 ghost use Rattle.std.specs.Option.{option_map};
 ghost use Rattle.ring_search.specs.Exactly.{Exactly};
-ghost use Rattle.ring_search.specs.Search.{wait_of, own_of, upward, best_of, ring_at, rings_below, model};
+ghost use Rattle.ring_search.specs.Search.{wait_of, own_of, upward, best_of, ring_at, rings_below, model, text_of};
 
 use signs::table::{ENGINES, Engines};
 use std::alloc::{AllocError, Global};
@@ -23,13 +23,14 @@ pub struct Ring {
 
 // `ring 0 1 2: 2 finds`
 impl fmt::Display for Ring {
+    ghost output = { λ ring. Some (text_of (model ring)) };
+
     fn fmt<W: fmt::Write>(&self, f: &mut fmt::Formatter<W>) -> fmt::Result {
         write!(f, "ring")?;
         for e in &self.engines {
             write!(f, " {e}")?;
         }
-        let finder = self.finder;
-        write!(f, ": {finder} finds")
+        write!(f, ": {} finds", self.finder)
     }
 }
 
@@ -81,11 +82,11 @@ fn ring_at(heap: Global, table: &Engines, first: u8) -> Result<Option<Ring>, All
     ensures { IfOk result (λ o. option_map model o ≡ ring_at (wait_of table.now) (own_of table.now) first) }
 {
     let upward = Upward { table, first };
-    let Some(engines) = way_back(heap, &upward, first)? else {
-        return Ok(None);
-    };
-    let finder = highest(table, first, &engines);
-    Ok(Some(Ring { engines, finder }))
+    let way = way_back(heap, &upward, first)?;
+    Ok(way.map(|engines| Ring {
+        finder: highest(table, first, &engines),
+        engines,
+    }))
 }
 
 // Every engine in turn: the rings of which it is the lowest.
