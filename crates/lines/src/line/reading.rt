@@ -89,7 +89,7 @@ fn message(text: &[u8]) -> Option<Buffer>
     for [high, low] in pairs {
         let high = hex_value(*high)?;
         let low = hex_value(*low)?;
-        out = out.byte(high * 16 + low);
+        out = out.push(high * 16 + low)?;
     }
     Some(out)
 }

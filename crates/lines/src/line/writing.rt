@@ -1,5 +1,5 @@
 // From bytes to a line.
-ghost use Rattle.std.specs.Prelude.{◌≡◌, ◌+◌, ◌*◌, ◌≤◌, ◌++◌, length};
+ghost use Rattle.std.specs.Prelude.{◌≡◌, IsSomeAnd, ◌+◌, ◌*◌, ◌≤◌, ◌++◌, length};
 ghost use Rattle.lines.specs.Digits.{decimal, hex_of};
 ghost use Rattle.lines.specs.Lines.{written};
 ghost use Rattle.lines.specs.Written.{bytes_of, held};
@@ -15,28 +15,27 @@ pub fn write(to: BoxNumber, message: &[u8]) -> Option<Buffer>
     if to.0 > 99 || message.len() > 21 {
         return None;
     }
-    let out = decimal(Buffer::empty(), to.0).byte(b' ');
-    Some(hex(out, message))
+    let out = decimal(Buffer::empty(), to.0)?.push(b' ')?;
+    hex(out, message)
 }
 
-fn decimal(out: Buffer, n: u8) -> Buffer
+fn decimal(out: Buffer, n: u8) -> Option<Buffer>
     requires { (n ≤ 99) × (out.used + 2 ≤ 45) }
-    ensures bytes { bytes_of result ≡ bytes_of out ++ decimal n }
-    ensures used { result.used ≤ out.used + 2 }
+    ensures { IsSomeAnd result (λ more. (bytes_of more ≡ bytes_of out ++ decimal n) × (more.used ≤ out.used + 2)) }
 {
     if n < 10 {
-        out.byte(b'0' + n)
+        out.push(b'0' + n)
     } else {
-        out.byte(b'0' + n / 10).byte(b'0' + n % 10)
+        out.push(b'0' + n / 10)?.push(b'0' + n % 10)
     }
 }
 
-fn hex(mut out: Buffer, message: &[u8]) -> Buffer
+fn hex(mut out: Buffer, message: &[u8]) -> Option<Buffer>
     requires { out.used + 2 * length message.now ≤ 45 }
-    ensures { bytes_of result ≡ bytes_of out ++ hex_of message.now }
+    ensures { IsSomeAnd result (λ more. bytes_of more ≡ bytes_of out ++ hex_of message.now) }
 {
     for b in message {
-        out = out.byte(hex_digit(*b / 16)).byte(hex_digit(*b % 16));
+        out = out.push(hex_digit(*b / 16))?.push(hex_digit(*b % 16))?;
     }
-    out
+    Some(out)
 }

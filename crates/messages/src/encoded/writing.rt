@@ -1,5 +1,5 @@
 // Writing bytes one field after another, high byte first.
-ghost use Rattle.std.specs.Prelude.{◌≡◌, ◌+◌, ◌<◌, ◌≤◌, [], ◌∷◌, ◌++◌};
+ghost use Rattle.std.specs.Prelude.{◌≡◌, MatchOption, ◌+◌, ◌<◌, ◌≤◌, [], ◌∷◌, ◌++◌};
 ghost use Rattle.messages.specs.Written.{encoded};
 ghost use Rattle.messages.specs.Table.{call_bytes, eight, four, two};
 
@@ -24,7 +24,17 @@ impl<const N: usize> Bytes<N> {
         }
     }
 
-    pub fn byte(mut self, b: u8) -> Self
+    // The bytes with one more; none where there is no room for it.
+    pub fn push(self, b: u8) -> Option<Self>
+        ensures { MatchOption result (self.entry.used ≡ N) (λ more. (encoded more ≡ encoded self.entry ++ (b ∷ [])) × (more.used ≡ self.entry.used + 1)) }
+    {
+        if self.used == N {
+            return None;
+        }
+        Some(self.byte(b))
+    }
+
+    pub(crate) fn byte(mut self, b: u8) -> Self
         requires { self.used < N }
         ensures bytes { encoded result ≡ encoded self.entry ++ (b ∷ []) }
         ensures used { result.used ≡ self.entry.used + 1 }
