@@ -9,7 +9,7 @@ use crate::{Keeper, NEVER, Verdict};
 use messages::{Call, Engine};
 use sections::{ENGINES, PLACES, Sections};
 
-// How a call's number stands to that of its engine's last call.
+// How a call's number stands to that of its engine's last call: three cases, each with what is done, so no Option.
 enum Turn {
     Last,
     Next,

@@ -4,7 +4,7 @@ pub mod reading;
 use crate::message::Record;
 use std::alloc::AllocFailed;
 
-// What stands first in a file's bytes.
+// What stands first in a file's bytes. Not a Result: what is cut is no error, and no record.
 #[derive(Clone, Copy, PartialEq, Eq)]
 pub enum First {
     // A whole record, and how many bytes it takes.

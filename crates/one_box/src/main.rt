@@ -13,6 +13,7 @@ const REFUSED: &str = "refused 1";
 
 // Prints each section that somebody has, by place.
 fn show(rt: &HostRuntime, sections: &Sections) -> io::Result<()> {
+    // Places are numbers, by which everything of a section is asked for.
     for place in 0..PLACES {
         if let Some(holder) = sections.holder(place) {
             let section = Section {

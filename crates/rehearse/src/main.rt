@@ -43,6 +43,7 @@ fn print_said<W: Write>(
 }
 
 fn print_sections<W: Write>(out: &mut W, number: BoxNumber, keeper: &Keeper) -> io::Result<()> {
+    // Places are numbers, by which everything of a section is asked for.
     for place in 0..PLACES {
         if let Some(holder) = keeper.holder(place) {
             let line = SectionLine {

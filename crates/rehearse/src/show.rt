@@ -31,6 +31,7 @@ impl fmt::Display for SectionLine<'_> {
     }
 }
 
+// Acts and this trait of printing are both of other crates, so it is a function.
 fn act_word(act: Act) -> &'static str {
     match act {
         Act::Take => "take",

@@ -58,6 +58,7 @@ impl Sections {
     }
 
     // An engine takes a free section, or waits for one that another has.
+    // It and `free` differ in the row's method: a function that took that as a closure would be longer than both.
     pub fn take_or_wait(&mut self, engine: u8, place: u8) -> Result<Done, Refusal>
         ensures after { (table_of self.new, result) ≡ take_of (table_of self.old) engine place }
         ensures in_turn { InTurn (table_of self.old) (table_of self.new) }

@@ -68,7 +68,7 @@ pub fn holder_byte(holder: Option<u8>) -> u8
     holder.unwrap_or(255)
 }
 
-// The answer byte of a call: 1 done, 2 waits, 0 not.
+// The answer byte of a call: 1 done, 2 waits, 0 not. A function, since nobody writes an impl for a `Result`.
 pub fn answer_byte(answer: Result<Done, Refusal>) -> u8
     ensures { result ≡ answer_byte answer }
 {

@@ -31,6 +31,7 @@ impl Full {
             signal_box: SignalBox::new(yard, ONLY_BOX),
             heap,
         };
+        // Numbers, and not places of a list: each engine takes the section of its own number, then all but the first want one.
         for place in 0u8..ENGINES - 1 {
             full.run_out(
                 Engine(place),
@@ -84,6 +85,7 @@ impl Full {
 
     // Handles the message that many times, and once more; how much came of the last time.
     pub fn turns(&mut self, kind: Kind, times: u32) -> Result<Count, OpenFault> {
+        // So many times, and the message goes by the number of the turn.
         for turn in 0u32..times {
             self.turn(kind.message(turn))?.abandon();
         }

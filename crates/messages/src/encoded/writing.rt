@@ -34,6 +34,7 @@ impl<const N: usize> Bytes<N> {
         Some(self.byte(b))
     }
 
+    // This and those below ask for the room of what they write, each its own.
     pub(crate) fn byte(mut self, b: u8) -> Self
         requires { self.used < N }
         ensures bytes { encoded result ≡ encoded self.entry ++ (b ∷ []) }

@@ -56,6 +56,7 @@ pub fn read_records(heap: Global, yard: Yard, bytes: &[u8]) -> Result<Replay, Un
 {
     let mut records = Vec::new(heap);
     let mut length = 0usize;
+    // Each record says where the next begins, so no iterator of the library goes over them.
     loop {
         match first_record(yard, &bytes[length..]) {
             First::Whole {

@@ -154,6 +154,7 @@ impl World {
         self.deliver_at(envelope.to, envelope.from, &bytes[..length])
     }
 
+    // It and `free` differ in the input that they make: a function of both would be longer than either.
     pub fn take(&mut self, engine: Engine, section: Section) -> Result<Outcome, OpenFault>
         ensures { IfOk result (λ out. (world_of self.new, answer_of out) ≡ take_of (world_of self.old) engine section) }
     {
