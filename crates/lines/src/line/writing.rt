@@ -19,6 +19,7 @@ pub fn write(to: BoxNumber, message: &[u8]) -> Option<Buffer>
     Some(hex(out, message))
 }
 
+// By hand: `write!` answers a `Result`, and here there is always room.
 fn decimal(out: Buffer, n: u8) -> Buffer
     requires { (n ≤ 99) × (out.used + 2 ≤ 45) }
     ensures bytes { bytes_of result ≡ bytes_of out ++ decimal n }
