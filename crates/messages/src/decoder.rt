@@ -114,6 +114,7 @@ fn reply(byte: u8, end: &[u8]) -> Option<Reply>
     }
 }
 
+// Not each refusal is an answer's, so this is no `TryFrom`. The match names every byte, as that over first bytes does.
 fn refusal(number: u8) -> Option<Refusal>
     ensures { result ≡ refusal_of number }
 {
@@ -196,7 +197,7 @@ pub(crate) fn four_at(bytes: &[u8], at: usize) -> u32
     u32::from_be_bytes([bytes[at], bytes[at + 1], bytes[at + 2], bytes[at + 3]])
 }
 
-// The number in the eight bytes from `at` on.
+// The number in the eight bytes from `at` on: twice four.
 pub(crate) fn eight_at(bytes: &[u8], at: usize) -> u64
     requires { at + 8 ≤ length bytes.now }
     ensures { result ≡ eight_at bytes.now at }

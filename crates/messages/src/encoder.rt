@@ -5,9 +5,7 @@ ghost use Rattle.messages.specs.Written.{encoded};
 
 use crate::encoded::Encoded;
 use crate::message::{Act, Message, Refusal, Reply};
-use crate::yard::Engine;
-
-const NOBODY: u8 = 255;
+use crate::yard::{Engine, NOBODY};
 
 pub fn encode(message: Message) -> Encoded
     ensures { encoded result ≡ bytes_of message }
@@ -96,6 +94,7 @@ fn holder_byte(holder: Option<Engine>) -> u8
 }
 
 impl Reply {
+    // Not a conversion: a refusal's byte is 0 whichever it is, and its number follows.
     pub(crate) fn byte(self) -> u8
         ensures { result ≡ reply_byte self }
     {

@@ -24,6 +24,9 @@ pub const MOST_ENGINES: u8 = 64;
 
 pub const PLACES: u8 = 64;
 
+// The byte of nobody, where an engine's number could stand.
+pub const NOBODY: u8 = 255;
+
 // How many boxes and engines there are: what is in range is decided by it alone.
 #[derive(Clone, Copy)]
 pub struct Yard {

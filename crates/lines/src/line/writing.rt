@@ -19,6 +19,7 @@ pub fn write(to: BoxNumber, message: &[u8]) -> Option<Buffer>
     hex(out, message)
 }
 
+// By hand: `write!` asks for a writer, and these are bytes in place.
 fn decimal(out: Buffer, n: u8) -> Option<Buffer>
     requires { (n ≤ 99) × (out.used + 2 ≤ 45) }
     ensures { IsSomeAnd result (λ more. (bytes_of more ≡ bytes_of out ++ decimal n) × (more.used ≤ out.used + 2)) }

@@ -4,15 +4,14 @@ ghost use Rattle.messages.specs.Homes.{home_of};
 ghost use Rattle.messages.specs.Reading.{box_of, engine_of, holder_of, section_of};
 ghost use Rattle.messages.specs.Range.{YardMade};
 
-use crate::yard::{BoxNumber, Engine, MOST_BOXES, MOST_ENGINES, PLACES, Section, Yard};
-
-const NOBODY: u8 = 255;
+use crate::yard::{BoxNumber, Engine, MOST_BOXES, MOST_ENGINES, NOBODY, PLACES, Section, Yard};
 
 impl Yard {
     // A yard of `boxes` boxes and `engines` engines, if there are 1 to 16 and 1 to 64 of them.
     pub fn new(boxes: u8, engines: u8) -> Option<Yard>
         ensures { YardMade boxes engines result }
     {
+        // `then_some` would make the yard before the test.
         if (1..=MOST_BOXES).contains(&boxes) && (1..=MOST_ENGINES).contains(&engines) {
             Some(Yard { boxes, engines })
         } else {
