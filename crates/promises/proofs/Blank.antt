@@ -78,6 +78,7 @@ fresh_blank y n = (λ e. all_same 64 known.Pending e, λ e. go e (ltb e 64))
   where
     nothing : Noted
     nothing = None
+
     go : (e : ℕ) (t : Bool) → cond t (get_or (replicate 64 nothing) e nothing) nothing ≡ nothing
     go e true = all_same 64 nothing e
     go e false = refl

@@ -89,6 +89,7 @@ fresh_note y b e = go (ltb e 64)
   where
     nothing : Noted
     nothing = None
+
     go : (t : Bool) → cond t (get_or (replicate 64 nothing) e nothing) nothing ≡ nothing
     go true = all_same 64 nothing e
     go false = refl

@@ -96,7 +96,9 @@ impl Station {
         ensures { IfOk result (λ said. Restarts yard number (station_of self.old) (station_of self.new, said_of said)) }
     {
         let records = self.read_again(yard, heap)?;
-        self.state = SignalBox::open(yard, number, records.as_slice()).map_err(|unwritten| OpenFault::Damaged(unwritten.index))?;
+        self.state = SignalBox::open(yard, number, records.as_slice()).map_err(
+            |unwritten| OpenFault::Damaged(unwritten.index),
+        )?;
         self.remind(heap)
     }
 }
