@@ -41,8 +41,9 @@ unless_none t = elim t as (λ (v : Bool). unless {A = List ℕ} v None ≡ None)
 pub none_odd : (xs : List ℕ) → length xs % 2 ≡ 1 → message_in xs ≡ None
 none_odd xs h = ap (λ (o : Option (List ℕ)). unless (leb (length xs) 42) o) (odd_none xs h) ∙ unless_none (leb (length xs) 42)
 
-pub in_pairs : (xs : List ℕ) → length xs % 2 ≡ 0 → length xs / 2 ≤ 21 → paired (first_chunks 2 (length xs / 2) xs) ≡ message_in xs
-in_pairs xs h n = even (length xs / 2) xs (omega arith) ∙ sym (ap (λ (t : Bool). unless t (bytes_in xs)) (le-leb (length xs) 42 (omega arith)))
+pub in_pairs : (xs : List ℕ) (ps : List (List ℕ)) → ps ≡ first_chunks 2 (length xs / 2) xs → length xs % 2 ≡ 0 → length xs / 2 ≤ 21 → paired ps ≡ message_in xs
+in_pairs xs ps is h n =
+    ap paired is ∙ (even (length xs / 2) xs (omega arith) ∙ sym (ap (λ (t : Bool). unless t (bytes_in xs)) (le-leb (length xs) 42 (omega arith))))
 
 -- what is read, with what has been read before it
 abbrev pub joined : List ℕ → Option (List ℕ) → Option (List ℕ)

@@ -1,8 +1,8 @@
 -- How long a record is stands in its first byte, so what stands first in a file is decided by its length alone.
-use Rattle.std.proofs.Common.{◌≡◌, ℕ, zero, suc, ◌+◌, ◌-◌, ◌<◌, ◌≤◌, List, [], ◌∷◌, ◌++◌, length, get_or, take, drop, Some, None, Option, sym, refl, ap, ◌∙◌, subst, arith, lit<, append-nil, append_assoc, length-append, length-drop, take-append-drop, length-take-le, take_all, drop-drop, MatchOption}
+use Rattle.std.proofs.Common.{◌≡◌, ℕ, zero, suc, ◌+◌, ◌-◌, ◌<◌, ◌≤◌, List, [], ◌∷◌, ◌++◌, length, get_or, take, drop, Some, Option, sym, refl, ap, ◌∙◌, subst, arith, lit<, append-nil, append_assoc, length-append, length-drop, take-append-drop, length-take-le, take_all, drop-drop, MatchOption}
 use lib.Seq.{take-append-le, take-length}
 use Rattle.std.proofs.lemmas.List.Prefix.{front_rest}
-use Rattle.std.proofs.lemmas.Option.{none-some, same_Some}
+use Rattle.std.proofs.lemmas.Option.{same_Some}
 use Rattle.messages.specs.declared.yard.Yard.{Yard}
 use Rattle.messages.specs.declared.message.Act.{Act}
 use Rattle.messages.specs.declared.message.Act.TheVariants as act
@@ -40,10 +40,6 @@ short_lt (k ∷ xs) n long is h = let P : Option ℕ → Type 0 = λ o. MatchOpt
 pub lt_short : (xs : List ℕ) (n : ℕ) → 1 ≤ length xs → size_of (get_or xs 0 0) ≡ Some n → length xs < n → Short xs
 lt_short [] n long is h = tt
 lt_short (k ∷ xs) n long is h = let P : Option ℕ → Type 0 = λ o. MatchOption o ⊥ (λ m. suc (length xs) < m) in subst P (sym is) h
-
-unsized : (xs : List ℕ) → 1 ≤ length xs → size_of (get_or xs 0 0) ≡ None → Short xs → ⊥
-unsized [] long is h = omega arith
-unsized (k ∷ xs) long is h = let P : Option ℕ → Type 0 = λ o. MatchOption o ⊥ (λ m. suc (length xs) < m) in subst P is h
 
 pub long_not_short : (r : Record) (rest : List ℕ) → Short (record_bytes r ++ rest) → ⊥
 long_not_short r rest h =
@@ -117,37 +113,11 @@ below_at [] (suc n) i b = lit< tt
 below_at (x ∷ xs) (suc n) zero b = b 0
 below_at (x ∷ xs) (suc n) (suc i) b = below_at xs n i (λ j. b (suc j))
 
--- what the reader of one record finds, way by way
-pub first_empty : (y : Yard) (xs : List ℕ) → length xs < 1 → FirstIs y xs first.Cut
-first_empty y [] h = tt
-first_empty y (x ∷ xs) h = absurd (omega arith)
-
-pub first_unknown : (y : Yard) (xs : List ℕ) → 1 ≤ length xs → size_of (get_or xs 0 0) ≡ None → FirstIs y xs first.Damaged
-first_unknown y xs long is = (
-  unsized xs long is,
-  λ r rest i e.
-      none-some (length (record_bytes r)) (sym is ∙ (ap (λ (l : List ℕ). size_of (get_or l 0 0)) (sym e) ∙ size_is r rest)),
-)
-
-known : (xs : List ℕ) (n : ℕ) → size_of (get_or xs 0 0) ≡ Some n → 1 ≤ length xs
-known [] n is = absurd (none-some n is)
-known (x ∷ xs) n is = omega arith
-
 pub first_whole : (y : Yard) (xs : List ℕ) (n : ℕ) (r : Record) → Bytes xs → size_of (get_or xs 0 0) ≡ Some n → n ≤ length xs
     → record_of y (take n xs) ≡ Some r → FirstIs y xs (first.Whole r n)
 first_whole y xs n r b is fits found =
     let f = record_form y (take n xs) r (λ i. below_at xs n i b) found in
     (f.0, ap (λ (l : List ℕ). l ++ drop n xs) f.1 ∙ take-append-drop n xs, sym (ap length f.1 ∙ length-take-le n xs fits))
-
-pub first_wrong : (y : Yard) (xs : List ℕ) (n : ℕ) → size_of (get_or xs 0 0) ≡ Some n → n ≤ length xs → record_of y (take n xs) ≡ None
-    → FirstIs y xs first.Damaged
-first_wrong y xs n is fits none = (
-  (λ s. let q = short_lt xs n (known xs n is) is s in omega arith),
-  λ r rest i e.
-      let l : length (record_bytes r) ≡ n = same_Some _ _ (sym (size_is r rest) ∙ (ap (λ (l : List ℕ). size_of (get_or l 0 0)) e ∙ is)) in
-      let t : take n xs ≡ record_bytes r = sym (ap (λ (l : List ℕ). take n l) e) ∙ (ap (λ (m : ℕ). take m (record_bytes r ++ rest)) (sym l) ∙ (take-append-le (length (record_bytes r)) (record_bytes r) rest (omega arith) ∙ take-length (record_bytes r))) in
-      none-some r (sym none ∙ (ap (record_of y) t ∙ record_back y r i)),
-)
 
 written_push : (rs : List Record) (r : Record) → written (rs ++ (r ∷ [])) ≡ written rs ++ record_bytes r
 written_push [] r = append-nil (record_bytes r)
@@ -160,9 +130,6 @@ all_push y (q ∷ rs) r h i = (h.0, all_push y rs r h.1 i)
 -- whole records so far, in a file's first bytes
 abbrev pub SoFar : Yard → List ℕ → List Record → ℕ → Type 0
 SoFar y xs rs at = AllIn y rs × (written rs ++ drop at xs ≡ xs) × (at ≡ length (written rs)) × (at ≤ length xs)
-
-pub so_far_none : (y : Yard) (xs : List ℕ) → SoFar y xs [] 0
-so_far_none y xs = (tt, refl, refl, omega arith)
 
 pub so_far_more : (y : Yard) (xs : List ℕ) (rs : List Record) (at n : ℕ) (r : Record) → SoFar y xs rs at → FirstIs y (drop at xs) (first.Whole r n)
     → SoFar y xs (rs ++ (r ∷ [])) (at + n)

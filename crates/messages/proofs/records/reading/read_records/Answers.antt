@@ -11,11 +11,6 @@ loop-record-preserved c =
     (so_far_more c.args.yard c.args.bytes.now (vec_items c.loop-record.records) c.loop-record.length c.in-Whole.more c.in-Whole.record c.loop-record.invariant
     (rest_is c.args.yard c.args.bytes.now c.loop-record.length (first.Whole c.in-Whole.record c.in-Whole.more) c.in-Whole.ensures))
 
-pub returns-in-Cut : goal.returns-in-Cut
-returns-in-Cut c =
-    let s = rest_is c.args.yard c.args.bytes.now c.loop-record.length first.Cut c.in-Cut.ensures in
-    ((c.loop-record.invariant.0, c.loop-record.invariant.1, s), c.loop-record.invariant.2)
-
 pub returns-in-Damaged : goal.returns-in-Damaged
 returns-in-Damaged c =
     so_far_damaged c.args.yard c.args.bytes.now (vec_items c.loop-record.records) c.loop-record.length c.loop-record.invariant
