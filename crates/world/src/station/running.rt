@@ -10,7 +10,7 @@ ghost use Rattle.world.specs.Station.{Restarts, committed, delivered_at, fresh_s
 
 use crate::station::Station;
 use boxes::{Input, SignalBox};
-use journal::{Effects, Fault, MemoryFile, OpenFault, Said, open};
+use journal::{Effects, MemoryFile, OpenFault, Said, open};
 use messages::{BoxNumber, Record, Yard};
 use std::alloc::Global;
 
