@@ -145,7 +145,7 @@ def buffers_and_parallels():
                     number += 1
                 text = '\n'.join(body)
                 arrays = len(re.findall(r': \[[^;\]]+; [A-Z0-9a-z_]+\]', text))
-                if arrays and re.search(r'\b(used|length): usize', text):
+                if arrays and re.search(r'\b(used|length|count): usize', text):
                     yield f'{path}:{begun + 1}', lines[begun].strip() + ' a buffer with a length'
                 elif arrays >= 2:
                     yield f'{path}:{begun + 1}', lines[begun].strip() + f' {arrays} arrays side by side'

@@ -12,7 +12,7 @@ use crate::store::store;
 use messages::{BoxNumber, Message, Record};
 use std::alloc::Global;
 
-// Not `Drop`, and nobody reads the outputs in it but a box those to itself: they can't be said but by way of `commit`, nor forgotten.
+// Not `Drop`, so they can't be forgotten. What is in them is said only by way of `commit`; before that a box reads those to itself, and nobody the others.
 pub struct Effects {
     heap: Global,
     records: Vec<Record>,

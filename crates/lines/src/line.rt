@@ -21,14 +21,14 @@ pub enum Line {
 
 // A number of one or two digits, and how many they are.
 #[derive(Clone, Copy)]
-pub struct Number {
+pub(crate) struct Number {
     value: u8,
     width: usize,
 }
 
 // The section that an engine asks for.
 #[derive(Clone, Copy)]
-pub struct Wish {
+pub(crate) struct Wish {
     engine: Engine,
     section: Section,
 }

@@ -6,7 +6,7 @@ pub mod writing;
 // The longest message or record is a beginning to wait.
 pub const LONGEST: usize = 21;
 
-// At most `N` bytes.
+// At most `N` bytes, in an array of its own: a box asks for no memory but for its files and its lines.
 #[derive(Clone, Copy)]
 pub struct Bytes<const N: usize> {
     bytes: [u8; N],

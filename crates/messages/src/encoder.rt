@@ -87,6 +87,7 @@ impl From<Act> for u8 {
     }
 }
 
+// A function: neither type is of this crate alone.
 fn holder_byte(holder: Option<Engine>) -> u8
     ensures { result ≡ holder_byte holder }
 {

@@ -6,7 +6,7 @@ ghost use Rattle.recode.specs.Again.{IsMessage};
 
 use messages::{Encoded, Yard, decode, encode_into};
 
-// How many bytes of `out` are the message again, and the others are as they were; `None` where `bytes` is none or `out` is too short.
+// How many bytes of `out` are the message again, and the others are as they were; `None` where `bytes` are no message or `out` is too short.
 pub fn recode(boxes: u8, engines: u8, bytes: &[u8], out: &mut [u8]) -> Option<usize>
     ensures again { IfSome result (λ n. (n ≡ length bytes.now) × (take n out.new ≡ bytes.now)) }
     ensures only { IsSome result → IsMessage boxes engines bytes.now }

@@ -4,7 +4,7 @@
 ghost use Rattle.std.specs.Prelude.{◌≡◌, ◌<◌, ◌≤◌, drop, length};
 ghost use Rattle.recode.specs.Again.{Again, IsMessage};
 
-// How many bytes of `out` are the message again, and the others are as they were; 0 where `bytes` is none or `out` is too short.
+// How many bytes of `out` are the message again, and the others are as they were; 0 where `bytes` are no message or `out` is too short.
 #[unsafe(no_mangle)]
 pub extern "C" fn recode(boxes: u8, engines: u8, bytes: &[u8], out: &mut [u8]) -> usize
     ensures again { Again bytes.now out.new result }

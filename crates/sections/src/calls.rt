@@ -65,6 +65,7 @@ impl Sections {
         ensures first { FirstServed (table_of self.old) (table_of self.new) }
     {
         self.admit(engine, place)?;
+        // By a name of its own here and below: a call on a place of the field itself gets no plan from the check.
         let rows = &mut self.rows;
         rows[place as usize].take(engine)
     }

@@ -6,7 +6,7 @@ ghost use Rattle.sections.specs.Sets.{Fits, Matches};
 
 use crate::ENGINES;
 
-// The set is a 64-bit word beside the queue: it says in one step who is in it.
+// An array with its count, and no list that asks for memory: a rule of the project. The set, a 64-bit word beside the queue, says in one step who is in it.
 #[derive(Clone, Copy)]
 pub struct Queue {
     engines: [u8; 64],
@@ -74,7 +74,7 @@ impl Queue {
         requires { engine < 64 }
         ensures { engines_of self.new ≡ without engine (engines_of self.old) }
     {
-        // In a copy: an array that the type speaks of is not lent.
+        // In a copy: array, count and set agree again only once all three are set.
         let mut engines = self.engines;
         self.count = close_up(&mut engines[..self.count], engine);
         self.engines = engines;

@@ -44,7 +44,7 @@ impl Refusal {
     }
 }
 
-// How far the lowest number above `shown` is that leaves `me` when divided by `engines`.
+// How far above `shown` the lowest number is that leaves `me` when divided by `engines`.
 fn ahead(shown: u64, me: u8, engines: u8) -> u64
     requires { me < engines }
     ensures { result ≡ ahead_of shown me engines }
@@ -100,7 +100,7 @@ impl Engine {
     }
 
     // A sign told by `by`: one above the sign shown is shown and told on.
-    // The teller, the count and the sign are plain numbers: what carries them together is a type of the messages, above this crate.
+    // Teller, count and sign stay plain numbers, and so do an engine and how many there are: a type for them here would be taken apart again at each call.
     pub fn hear(self, by: u8, count: u32, sign: u64) -> Result<(Engine, Heard), Refusal>
         ensures { result ≡ hear_of self by count sign }
     {

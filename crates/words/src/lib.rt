@@ -12,7 +12,7 @@ pub fn after<'a>(text: &'a [u8], word: &[u8]) -> Option<&'a [u8]>
     text.strip_prefix(word)
 }
 
-// What stands before and behind the first such byte of a text.
+// What stands before and behind the first byte of a text that is `between`.
 pub fn split_once(text: &[u8], between: u8) -> Option<(&[u8], &[u8])>
     ensures { option_map (λ both. (both.0.now, both.1.now)) result ≡ split_once between text.now }
 {

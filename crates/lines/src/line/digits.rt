@@ -1,8 +1,9 @@
 // Decimal and hexadecimal digits.
 ghost use Rattle.std.specs.Prelude.{◌≡◌, ◌<◌};
-ghost use Rattle.lines.specs.Digits.{Below, Inside, Next, digit_of, hex_digit, hex_value, next_of, number_of};
+ghost use Rattle.lines.specs.Digits.{Below, Inside, Next, hex_digit, hex_value, next_of, number_of};
 
 use crate::line::Number;
+use words::digit;
 
 // The number that `text` begins with: one digit, or two.
 pub(crate) fn number(text: &[u8]) -> Option<Number>
@@ -25,16 +26,6 @@ pub(crate) fn number(text: &[u8]) -> Option<Number>
     }
 }
 
-fn digit(c: u8) -> Option<u8>
-    ensures value { result ≡ digit_of c }
-    ensures small { Below 10 result }
-{
-    match c {
-        b'0'..=b'9' => Some(c - b'0'),
-        0..=47 | 58..=255 => None,
-    }
-}
-
 fn next_digit(text: &[u8]) -> Option<u8>
     ensures value { result ≡ next_of text.now }
     ensures small { Next text.now result }
@@ -45,6 +36,7 @@ fn next_digit(text: &[u8]) -> Option<u8>
     digit(*second)
 }
 
+// These two for bytes: the library's are for characters.
 pub(crate) fn hex_digit(n: u8) -> u8
     requires { n < 16 }
     ensures { result ≡ hex_digit n }

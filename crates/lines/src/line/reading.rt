@@ -18,6 +18,7 @@ pub fn read(yard: Yard, line: &[u8]) -> Result<Line, Refusal>
 fn whole(yard: Yard, line: &[u8]) -> Option<Line>
     ensures { shown result ≡ line_of yard line.now }
 {
+    // The two of an engine and a section are alike, two lines each: a function of both would be longer.
     if let Some(text) = line.strip_prefix(b"take ") {
         let Wish { engine, section } = wish(yard, text)?;
         return Some(Line::Take { engine, section });

@@ -90,34 +90,10 @@ fn whole_record(yard: Yard, bytes: &[u8]) -> Option<Record>
 fn beginning(yard: Yard, rest: &[u8]) -> Option<Record>
     ensures { result ≡ beginning_of yard rest.now }
 {
-    let [
-        engine,
-        keeper,
-        place,
-        _,
-        _,
-        _,
-        _,
-        holder,
-        _,
-        _,
-        _,
-        _,
-        _,
-        _,
-        _,
-        _,
-        _,
-        _,
-        _,
-        _,
-    ] = rest
-    else {
-        return None;
-    };
-    let engine = yard.engine(*engine)?;
-    let section = yard.section(*keeper, *place)?;
-    let holder = yard.engine(*holder)?;
+    let rest = rest.as_array::<20>()?;
+    let engine = yard.engine(rest[0])?;
+    let section = yard.section(rest[1], rest[2])?;
+    let holder = yard.engine(rest[7])?;
     let change = four_at(rest, 3);
     let count = four_at(rest, 8);
     let own = eight_at(rest, 12);

@@ -11,7 +11,7 @@ impl Yard {
     pub fn new(boxes: u8, engines: u8) -> Option<Yard>
         ensures { YardMade boxes engines result }
     {
-        // `then_some` would make the yard before the test.
+        // Tried with `then`: its closure doesn't know of the test by which a yard's sizes fit.
         if (1..=MOST_BOXES).contains(&boxes) && (1..=MOST_ENGINES).contains(&engines) {
             Some(Yard { boxes, engines })
         } else {
@@ -45,7 +45,7 @@ impl Yard {
         BoxNumber(engine.0 % self.boxes)
     }
 
-    // Who has a section, by its byte.
+    // Who has a section, by its byte: None where there is no such engine, and Some(None) for nobody.
     pub(crate) fn holder(self, number: u8) -> Option<Option<Engine>>
         ensures { result ≡ holder_of self number }
     {
