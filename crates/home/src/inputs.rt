@@ -143,6 +143,7 @@ impl Home {
     fn note_waiter(&mut self, engine: Engine, note: Note, by: Engine) -> Event
         ensures { (self.new, result) ≡ noted self.old engine note.section note.count by }
     {
+        // Tried with `get_mut` at the end: the proof didn't close.
         if engine.0 >= MOST_ENGINES || is_older(note.count, self.note(engine)) {
             return Event::PassedOver;
         }
