@@ -89,6 +89,12 @@ call_of a e s (Some n) = Ok (record { act = a; engine = e; section = s; number =
 abbrev pub next_call : State → Act → Engine → Section → Result Call Refusal
 next_call x a e s = call_of a e s (next_number x.stored s.keeper)
 
+-- an engine calls neither while a call of it is open nor while it waits
+abbrev pub may_call : State → Engine → Result (Unit {0}) Refusal
+may_call x e =
+    cond (is_some (open_of x e)) (Err refusal.WrongCall)
+    (cond (is_some (wait_of x)) (Err refusal.Waiting) (Ok tt))
+
 -- a take, the lowest refusal first
 abbrev pub take_call : State → Engine → Section → Result Call Refusal
 take_call x e s =

@@ -26,7 +26,7 @@ impl Places {
     pub fn has(&self, section: Section) -> bool
         ensures { result ≡ has_of self.now section }
     {
-        is_real(section) && (self.words[section.keeper.0 as usize] >> section.place) % 2 == 1
+        is_real(section) && (self.words[usize::from(section.keeper.0)] >> section.place) % 2 == 1
     }
 
     // The set with a section, if a yard can have it.
@@ -34,7 +34,7 @@ impl Places {
         ensures { result ≡ with_of self section }
     {
         if is_real(section) {
-            self.words[section.keeper.0 as usize] |= 1 << section.place;
+            self.words[usize::from(section.keeper.0)] |= 1 << section.place;
         }
         self
     }
@@ -44,7 +44,7 @@ impl Places {
         ensures { result ≡ without_of self section }
     {
         if is_real(section) {
-            let word = &mut self.words[section.keeper.0 as usize];
+            let word = &mut self.words[usize::from(section.keeper.0)];
             *word &= !(1 << section.place);
         }
         self

@@ -1,7 +1,7 @@
 // One engine of a home by value: what is stored of it, and what is known besides.
 ghost use Rattle.std.specs.Prelude.{◌≡◌};
 ghost use Rattle.engine_state.specs.State.{wanted, mode_section, next_number, numbered, kept_after, asked_after, stored_after, made, begun, heard, knowing};
-ghost use Rattle.engine_state.specs.Calls.{open_of, wait_of, had_of, holds_by, holds_of, is_that, holds_any, giving_back, next_call, take_call, free_call};
+ghost use Rattle.engine_state.specs.Calls.{open_of, wait_of, had_of, holds_by, holds_of, holds_any, giving_back, next_call, may_call, take_call, free_call};
 
 use crate::places::Places;
 use messages::{Act, Beginning, BoxNumber, Call, Engine, MOST_BOXES, Refusal, Section, Sign};
@@ -124,7 +124,7 @@ impl Stored {
     pub fn next_number(&self, keeper: BoxNumber) -> Option<u32>
         ensures { result ≡ next_number self.now keeper }
     {
-        self.used.get(keeper.0 as usize)?.checked_add(1)
+        self.used.get(usize::from(keeper.0))?.checked_add(1)
     }
 
     // Does the engine hold the section, if this is stored of it and that is known.
@@ -155,8 +155,9 @@ impl Stored {
         ensures { result ≡ numbered self.used call.section.keeper call.number }
     {
         let mut used = self.used;
+        // Tried with `get_mut`: the proof didn't close.
         if call.section.keeper.0 < MOST_BOXES {
-            used[call.section.keeper.0 as usize] = call.number;
+            used[usize::from(call.section.keeper.0)] = call.number;
         }
         used
     }
@@ -227,13 +228,13 @@ impl State {
         }
     }
 
-    pub fn knowing(self, known: Known) -> State
+    pub(crate) fn knowing(self, known: Known) -> State
         ensures { result ≡ knowing self known }
     {
         State { known, ..self }
     }
 
-    // Is a call of the engine open.
+    // The engine's open call, if there is one.
     pub fn open_call(self, engine: Engine) -> Option<Call>
         ensures { result ≡ open_of self engine }
     {
@@ -321,16 +322,27 @@ impl State {
         })
     }
 
-    // The call by which it takes a section.
-    pub fn take(self, engine: Engine, section: Section) -> Result<Call, Refusal>
-        ensures { result ≡ take_call self engine section }
+    // An engine calls neither while a call of it is open nor while it waits.
+    fn may_call(self, engine: Engine) -> Result<(), Refusal>
+        ensures { result ≡ may_call self engine }
     {
-        if self.open_call(engine).is_some() || self.is_giving_back() {
+        if self.open_call(engine).is_some() {
             return Err(Refusal::WrongCall);
         }
         if self.wait().is_some() {
             return Err(Refusal::Waiting);
         }
+        Ok(())
+    }
+
+    // The call by which it takes a section.
+    pub fn take(self, engine: Engine, section: Section) -> Result<Call, Refusal>
+        ensures { result ≡ take_call self engine section }
+    {
+        if self.is_giving_back() {
+            return Err(Refusal::WrongCall);
+        }
+        self.may_call(engine)?;
         if self.holds(section) {
             return Err(Refusal::Mismatch);
         }
@@ -341,12 +353,7 @@ impl State {
     pub fn free(self, engine: Engine, section: Section) -> Result<Call, Refusal>
         ensures { result ≡ free_call self engine section }
     {
-        if self.open_call(engine).is_some() {
-            return Err(Refusal::WrongCall);
-        }
-        if self.wait().is_some() {
-            return Err(Refusal::Waiting);
-        }
+        self.may_call(engine)?;
         if !self.holds(section) {
             return Err(Refusal::Mismatch);
         }

@@ -13,7 +13,8 @@ pub struct Note {
     pub count: u32,
 }
 
-// `signs` and `stored` are rebuilt from the file; `known` and `notes` are lost when the box stops. So they stand apart.
+// `signs` and `stored` are rebuilt from the file; `known` and `notes` are lost when the box stops.
+// `signs` stands in its own table of arrays, a rule of the project; `stored` is apart from `known`, since what is promised of stops speaks of all that is stored.
 #[derive(Clone, Copy)]
 pub struct Home {
     pub(crate) yard: Yard,
@@ -66,7 +67,7 @@ impl Home {
             return Err(Refusal::Malformed);
         }
         let signs = self.signs.get(engine.0).map_err(|_| Refusal::Malformed)?;
-        let i = engine.0 as usize;
+        let i = usize::from(engine.0);
         Ok(State {
             stored: self.stored[i],
             known: self.known[i],
@@ -78,8 +79,9 @@ impl Home {
         requires { engine.0 < 64 }
         ensures { self.new ≡ with self.old engine state }
     {
+        // It is one of sixty-four: the table takes it.
         let _ = self.signs.put(engine.0, state.signs);
-        let i = engine.0 as usize;
+        let i = usize::from(engine.0);
         self.stored[i] = state.stored;
         self.known[i] = state.known;
     }

@@ -102,10 +102,10 @@ impl Home {
     pub fn answer(&mut self, from: BoxNumber, engine: Engine, number: u32, answer: Answer) -> Event
         ensures { (self.new, result) ≡ answer_of self.old from engine number answer.reply answer.holder answer.change }
     {
-        let engines = self.yard.engines;
+        let yard = self.yard;
         self.at(
             engine,
-            |state| state.answer(from, engine, engines, number, answer),
+            |state| state.answer(from, engine, yard, number, answer),
         )
     }
 
@@ -125,8 +125,8 @@ impl Home {
         if self.is_ours(engine) && !self.awaits(engine, change) {
             return Event::PassedOver;
         }
-        let engines = self.yard.engines;
-        self.at(engine, |state| state.change_at(engine, engines, change))
+        let yard = self.yard;
+        self.at(engine, |state| state.change_at(engine, yard, change))
     }
 
     // A sign told to one of ours by `from`, the home of the one that shows it.
@@ -143,13 +143,14 @@ impl Home {
     fn note_waiter(&mut self, engine: Engine, note: Note, by: Engine) -> Event
         ensures { (self.new, result) ≡ noted self.old engine note.section note.count by }
     {
+        // Tried with `get_mut` at the end: the proof didn't close.
         if engine.0 >= MOST_ENGINES || is_older(note.count, self.note(engine)) {
             return Event::PassedOver;
         }
         let Some(signs) = self.signs(by) else {
             return Event::PassedOver;
         };
-        self.notes[engine.0 as usize] = Some(note);
+        self.notes[usize::from(engine.0)] = Some(note);
         Event::Noted(Sign {
             to: engine,
             count: note.count,
@@ -162,7 +163,7 @@ impl Home {
     pub fn waits(&mut self, engine: Engine, section: Section, count: u32) -> Event
         ensures { (self.new, result) ≡ waits_of self.old engine section count }
     {
-        if engine.0 >= self.yard.engines || !self.has_section(section) {
+        if self.yard.engine(engine.0).is_none() || !self.has_section(section) {
             return Event::Refused(Refusal::Malformed);
         }
         match self.holder_of(section) {

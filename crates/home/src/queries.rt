@@ -19,10 +19,11 @@ impl Home {
         self.state(engine).ok()?.wait()
     }
 
+    // Asked for every engine of a home: the whole state is not copied.
     pub fn holds(&self, engine: Engine, section: Section) -> bool
         ensures { result ≡ holds_at self.now engine section }
     {
-        let i = engine.0 as usize;
+        let i = usize::from(engine.0);
         self.is_ours(engine) && self.stored[i].holds(self.known[i], section)
     }
 
@@ -43,7 +44,7 @@ impl Home {
     pub fn note(&self, engine: Engine) -> Option<Note>
         ensures { result ≡ note_at self.now engine }
     {
-        *self.notes.get(engine.0 as usize)?
+        *self.notes.get(usize::from(engine.0))?
     }
 
     // The lowest of ours that holds the section.
