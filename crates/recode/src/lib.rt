@@ -14,7 +14,10 @@ pub fn recode(boxes: u8, engines: u8, bytes: &[u8], out: &mut [u8]) -> Option<us
     ensures rest { MatchOption result (out.new ≡ out.old) (λ n. drop n out.new ≡ drop n out.old) }
 {
     let yard = Yard::new(boxes, engines)?;
-    let message = decode(yard, bytes).ok()?;
+    // Not `.ok()?`, which forgets what is known of a message that was read.
+    let Ok(message) = decode(yard, bytes) else {
+        return None;
+    };
     let mut encoded = Encoded::empty();
     encode_into(message, &mut encoded);
     let written = encoded.as_slice();
