@@ -10,7 +10,7 @@ use std::alloc::{AllocError, Global};
 use std::fmt;
 use std::str::from_utf8;
 
-// An output, as its line; a message's is digits and a blank, which are text.
+// An output, as its line; a message's is a number, a blank and hexadecimal, which is text.
 #[derive(Clone, Copy)]
 pub struct Told(pub Output);
 
