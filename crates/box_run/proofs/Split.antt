@@ -1,9 +1,11 @@
 -- A text is its first line, up to the first newline, and the lines of what follows.
-use Rattle.std.proofs.Common.{◌≡◌, ℕ, suc, ◌+◌, ◌<◌, Bool, true, false, not, cond, List, [], ◌∷◌, ◌++◌, Some, None, length, take, drop, sym, refl, ap, ◌∙◌, inl, inr, arith}
+use Rattle.std.proofs.Common.{◌≡◌, ℕ, suc, ◌+◌, ◌<◌, Bool, true, false, not, cond, List, [], ◌∷◌, ◌++◌, Some, None, Option, length, take, drop, sym, refl, ap, ◌∙◌, inl, inr, arith, length-drop}
 use Rattle.std.specs.Prelude.{◌==◌, nat_lt}
+use Rattle.std.specs.Option.{option_map}
 use Rattle.std.specs.List.{after_first, before_first, position, position_or_len}
 use Rattle.std.proofs.lemmas.List.{drop_all, take_all}
 use Rattle.std.proofs.lemmas.Bool.{cases_eq, eq-eqb, ltb-false, ltb-true, ne_eqb}
+use Rattle.words.specs.Words.{split_once}
 use Rattle.box_run.specs.Lines.{lines_in, longer}
 
 -- the byte that ends a line
@@ -38,16 +40,42 @@ found_nowhere : (b : Bool) (p : ℕ) → None ≡ cond b (Some p) None → b ≡
 found_nowhere true p q = let no : ⊥ = cc in elim no [ ]
 found_nowhere false p q = refl
 
-pub ended_line : (xs : List ℕ) (e : ℕ) → Some e ≡ position is_newline xs → lines_in xs ≡ take e xs ∷ lines_in (drop (e + 1) xs)
-ended_line xs e q =
-    let f = found_at (nat_lt (position_or_len is_newline xs) (length xs)) (position_or_len is_newline xs) e q in
-    let within = ltb-true (position_or_len is_newline xs) (length xs) f.0 in
-    lines_first xs (omega arith) ∙ ap (λ n. take n xs ∷ lines_in (drop (n + 1) xs)) (sym f.1)
+abbrev cut_at : List ℕ → ℕ → List ℕ × List ℕ
+cut_at xs i = (take i xs, drop (i + 1) xs)
 
-pub last_line : (xs : List ℕ) → 0 < length xs → None ≡ position is_newline xs → lines_in xs ≡ xs ∷ []
+both_of : Option (List ℕ × List ℕ) → List ℕ × List ℕ
+both_of None = ([], [])
+both_of (Some both) = both
+
+-- where a text is cut at its first newline
+parted : (xs before after : List ℕ) (p : Option ℕ) → ◌≡◌ {A = Option (List ℕ × List ℕ)} (Some (before, after)) (option_map (cut_at xs) p)
+    → (e : ℕ) × (Some e ≡ p) × (before ≡ take e xs) × (after ≡ drop (e + 1) xs)
+unfolding both_of
+parted xs before after None q = let no : ⊥ = cc in elim no [ ]
+parted xs before after (Some e) q = (e, refl, ap (λ o. (both_of o).0) q, ap (λ o. (both_of o).1) q)
+
+unparted : (xs : List ℕ) (p : Option ℕ) → ◌≡◌ {A = Option (List ℕ × List ℕ)} None (option_map (cut_at xs) p) → None ≡ p
+unparted xs None q = refl
+unparted xs (Some e) q = let no : ⊥ = cc in elim no [ ]
+
+pub less_follows : (xs before after : List ℕ) → ◌≡◌ {A = Option (List ℕ × List ℕ)} (Some (before, after)) (split_once 10 xs) → length after < length xs
+less_follows xs before after q =
+    let c = parted xs before after (position is_newline xs) q in
+    let f = found_at (nat_lt (position_or_len is_newline xs) (length xs)) (position_or_len is_newline xs) c.0 c.1 in
+    let within = ltb-true (position_or_len is_newline xs) (length xs) f.0 in
+    omega (arith, within, f.1, ap length c.3, length-drop (c.0 + 1) xs)
+
+pub ended_line : (xs before after : List ℕ) → ◌≡◌ {A = Option (List ℕ × List ℕ)} (Some (before, after)) (split_once 10 xs) → lines_in xs ≡ before ∷ lines_in after
+ended_line xs before after q =
+    let c = parted xs before after (position is_newline xs) q in
+    let f = found_at (nat_lt (position_or_len is_newline xs) (length xs)) (position_or_len is_newline xs) c.0 c.1 in
+    let within = ltb-true (position_or_len is_newline xs) (length xs) f.0 in
+    lines_first xs (omega arith) ∙ (ap (λ n. take n xs ∷ lines_in (drop (n + 1) xs)) (sym f.1) ∙ (ap (λ l. l ∷ lines_in (drop (c.0 + 1) xs)) (sym c.2) ∙ ap (λ l. before ∷ lines_in l) (sym c.3)))
+
+pub last_line : (xs : List ℕ) → 0 < length xs → None ≡ split_once 10 xs → lines_in xs ≡ xs ∷ []
 last_line xs some q =
     let e = position_or_len is_newline xs in
-    let past = ltb-false e (length xs) (found_nowhere (nat_lt e (length xs)) e q) in
+    let past = ltb-false e (length xs) (found_nowhere (nat_lt e (length xs)) e (unparted xs (position is_newline xs) q)) in
     lines_first xs some ∙ (ap (λ l. l ∷ lines_in (drop (e + 1) xs)) (take_all e xs past) ∙ ap (λ l. xs ∷ lines_in l) (drop_all (e + 1) xs (omega arith)))
 
 -- a text that ends in a newline has a first line

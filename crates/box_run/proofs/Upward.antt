@@ -1,5 +1,5 @@
 -- A box comes up as the records stand for, and every way in which it doesn't leaves what was synced.
-use Rattle.std.proofs.Common.{◌≡◌, ℕ, List, length, Err, sym, ◌∙◌, subst}
+use Rattle.std.proofs.Common.{◌≡◌, ℕ, List, length, Err, sym, ◌∙◌, subst, inr}
 use Rattle.messages.specs.declared.message.Record.{Record}
 use Rattle.messages.specs.declared.yard.BoxNumber.{BoxNumber}
 use Rattle.messages.specs.declared.yard.Yard.{Yard}
@@ -8,7 +8,12 @@ use Rattle.journal.specs.declared.opening.OpenFault.{OpenFault}
 use Rattle.journal.specs.declared.opening.OpenFault.TheVariants as fault
 use Rattle.journal.specs.Opening.{StillThere}
 use Rattle.journal.proofs.Stopping.{reaches, untouched, whole_left}
-use Rattle.box_run.specs.Opening.{ComesUp, ReadUp}
+use Rattle.box_run.specs.Opening.{ComesUp, ReadUp, StandsFor}
+
+-- a record that the box couldn't have written is damage
+pub not_standing : (y : Yard) (n : BoxNumber) (xs : List ℕ) (rs slice : List Record) (rest : List ℕ) (f : OpenFault) → slice ≡ rs → Holds y xs rs rest → StandsFor y n slice (Err f) → ReadUp y n xs (Err f)
+not_standing y n xs rs slice rest (fault.Damaged at) e h w = let P : List Record → Type 0 = λ qs. StandsFor y n qs (Err (fault.Damaged at)) in inr (rs, rest, h, subst P e w)
+not_standing y n xs rs slice rest (fault.Fault f) e h w = tt
 
 -- a file that stands for nothing is left as it was
 pub not_up : (y : Yard) (n : BoxNumber) (xs : List ℕ) (k : ℕ) (after : List ℕ → ℕ → Type 0) (f : OpenFault) → after xs k → ReadUp y n xs (Err f) → ComesUp y n xs k after (Err f)

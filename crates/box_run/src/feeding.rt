@@ -1,5 +1,5 @@
 // Lines, one after another.
-ghost use Rattle.std.specs.Prelude.{◌≡◌, ◌<◌, ◌==◌, [], ◌∷◌, length, position, Ok, IfNone, IfSome, OnOk};
+ghost use Rattle.std.specs.Prelude.{◌≡◌, ◌<◌, [], ◌∷◌, length, Ok, IfNone, IfSome, OnOk};
 ghost use Rattle.lines.specs.Lines.{said_of};
 ghost use Rattle.boxes.specs.Log.{log_of};
 ghost use Rattle.boxes.specs.Model.{state_of};
@@ -10,6 +10,7 @@ use crate::own::settle;
 use boxes::{Input, SignalBox};
 use journal::{Effects, Fault, Output};
 use lines::{Line, read};
+use words::split_once;
 
 // The box and its effects are lent by two owners, and each clause speaks of both: a struct of the two `&mut` would say no less.
 
@@ -44,21 +45,14 @@ fn feed(state: &mut SignalBox, line: &[u8], effects: &mut Effects) -> Result<(),
     settle(state, before, effects)
 }
 
-// Where a text's first newline is.
-fn line_end(text: &[u8]) -> Option<usize>
-    ensures { result ≡ position (λ b. b == 10) text.now }
-{
-    text.iter().position(|byte| *byte == b'\n')
-}
-
 // A text's first line, and what follows its newline; no line, where there is no text.
 fn first_line(text: &[u8]) -> Option<(&[u8], &[u8])>
     ensures none { IfNone result (lines_in text.now ≡ []) }
     ensures line { IfSome result (λ (line, rest). lines_in text.now ≡ line.now ∷ lines_in rest.now) }
     ensures less { IfSome result (λ (line, rest). length rest.now < length text.now) }
 {
-    match line_end(text) {
-        Some(end) => Some((&text[..end], &text[end + 1..])),
+    match split_once(text, b'\n') {
+        Some(both) => Some(both),
         None if text.is_empty() => None,
         None => Some((text, &[])),
     }
@@ -72,6 +66,7 @@ pub(crate) fn feed_all(
 ) -> Result<(), Fault>
     ensures { OnOk result (FedEach (lines_in text.now) (state_of state.old, log_of effects.old) (state_of state.new, log_of effects.new)) }
 {
+    // A line and what follows it: pieces that keep their newlines would have to be stripped of them again.
     let mut rest = text;
     while let Some((line, after)) = first_line(rest) {
         feed(state, line, effects)?;

@@ -50,7 +50,7 @@ fn receive<R: Read>(
     waiting: &mut Vec<u8>,
 ) -> Result<usize, Ending> {
     let length = input.read(chunk).map_err(|_| Ending::Input)?;
-    waiting.extend_from_slice(&chunk[0..length])?;
+    waiting.extend_from_slice(&chunk[..length])?;
     Ok(length)
 }
 
@@ -79,11 +79,11 @@ fn run(
 }
 
 fn start(rt: &HostRuntime) -> Result<(), Ending> {
-    let Which { yard, number } = which(rt)?;
+    let which = which(rt)?;
     let mut file = DiskFile::open(rt, FOLDER, FILE)?;
-    let CameUp { mut state, said } = come_up(&mut file, yard, number, rt.alloc())?;
-    say(rt, number, &said)?;
-    run(rt, number, &mut state, &mut file)
+    let CameUp { mut state, said } = come_up(&mut file, which, rt.alloc())?;
+    say(rt, which.number, &said)?;
+    run(rt, which.number, &mut state, &mut file)
 }
 
 fn main(rt: HostRuntime) -> ExitCode {

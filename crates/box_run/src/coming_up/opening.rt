@@ -8,9 +8,10 @@ ghost use Rattle.boxes.specs.Log.{none};
 ghost use Rattle.box_run.specs.Opening.{ComesUp, ReadUp, StandsFor};
 
 use crate::coming_up::{CameUp, Standing};
+use crate::which::Which;
 use boxes::SignalBox;
 use journal::{Effects, Fault, File, OpenFault, Said, cut_back, read_back};
-use messages::{BoxNumber, Record, Replay, Yard, encode_record};
+use messages::{Record, Replay, encode_record};
 use std::alloc::Global;
 
 // How many bytes records take.
@@ -33,13 +34,13 @@ fn byte_of(records: &[Record], index: usize) -> usize
 }
 
 // The box that records stand for, or the byte of the first that it couldn't have written.
-fn stand_for(yard: Yard, number: BoxNumber, records: &[Record]) -> Result<SignalBox, OpenFault>
+fn stand_for(which: Which, records: &[Record]) -> Result<SignalBox, OpenFault>
     requires { size (written records.now) < 2 ^ 64 }
-    ensures { StandsFor yard number records.now result }
+    ensures { StandsFor which.yard which.number records.now result }
 {
-    SignalBox::open(yard, number, records)
-        .map_err(|unwritten| byte_of(records, unwritten.index))
-        .map_err(OpenFault::Damaged)
+    SignalBox::open(which.yard, which.number, records).map_err(|unwritten| OpenFault::Damaged(
+        byte_of(records, unwritten.index),
+    ))
 }
 
 // Who was told to give back and still holds a section. Nothing is recorded.
@@ -52,30 +53,20 @@ fn say_reminders<F: File>(state: &SignalBox, file: &mut F, heap: Global) -> Resu
 }
 
 // What the file stands for; it isn't changed.
-fn read_up<F: File>(
-    file: &mut F,
-    yard: Yard,
-    number: BoxNumber,
-    heap: Global,
-) -> Result<Standing, OpenFault>
-    ensures { (xs : List ℕ) (n : ℕ) → F.File.holds file.old xs n → F.File.holds file.new xs n × ReadUp yard number xs result }
+fn read_up<F: File>(file: &mut F, which: Which, heap: Global) -> Result<Standing, OpenFault>
+    ensures { (xs : List ℕ) (n : ℕ) → F.File.holds file.old xs n → F.File.holds file.new xs n × ReadUp which.yard which.number xs result }
 {
-    let Replay { records, length } = read_back(file, yard, heap)?;
-    let state = stand_for(yard, number, records.as_slice())?;
+    let Replay { records, length } = read_back(file, which.yard, heap)?;
+    let state = stand_for(which, records.as_slice())?;
     Ok(Standing { state, length })
 }
 
 // The box that the file stands for. What a stop cut short is cut away; damage is left as it is.
-pub fn come_up<F: File>(
-    file: &mut F,
-    yard: Yard,
-    number: BoxNumber,
-    heap: Global,
-) -> Result<CameUp, OpenFault>
-    ensures up { (xs : List ℕ) (n : ℕ) → F.File.holds file.old xs n → ComesUp yard number xs n (F.File.holds file.new) result }
+pub fn come_up<F: File>(file: &mut F, which: Which, heap: Global) -> Result<CameUp, OpenFault>
+    ensures up { (xs : List ℕ) (n : ℕ) → F.File.holds file.old xs n → ComesUp which.yard which.number xs n (F.File.holds file.new) result }
     ensures settled { OnOk result (F.File.settled file.new) }
 {
-    let Standing { state, length } = read_up(file, yard, number, heap)?;
+    let Standing { state, length } = read_up(file, which, heap)?;
     cut_back(file, length)?;
     let said = say_reminders(&state, file, heap)?;
     Ok(CameUp { state, said })
