@@ -1,9 +1,8 @@
 -- The lines of the outputs so far.
-use Rattle.std.proofs.Common.{◌≡◌, take}
-use Rattle.std.specs.Prelude.{string_bytes}
+use Rattle.std.proofs.Common.{◌≡◌, take, vec_items}
 use Rattle.std.specs.List.{flat_map}
 use Rattle.box_run.specs.Text.{printed}
 use Rattle.box_run.proofs.text.print.Given as goal
 
 abbrev pub invariant-loop-output : goal.invariant-loop-output
-invariant-loop-output l = string_bytes l.text ≡ flat_map (printed l.own) (take l.output-index l.outputs)
+invariant-loop-output l = vec_items l.text ≡ flat_map (printed l.own) (take l.output-index l.outputs)
