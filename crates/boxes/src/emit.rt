@@ -8,6 +8,8 @@ use home::Home;
 use journal::{Effects, Fault, Output};
 use messages::{Beginning, BoxNumber, Call, Engine, Message, Record, Sign, Waits};
 
+// The home and the effects are lent by two owners, and each clause speaks of both: a struct of the two references would say no less.
+
 pub(crate) fn send(to: BoxNumber, message: Message, effects: &mut Effects) -> Result<(), Fault>
     ensures { OnOk result (log_of effects.new ≡ sent (log_of effects.old) to message) }
 {

@@ -34,7 +34,7 @@ impl SignalBox {
         if !self.home.is_ours(engine) {
             return Ok(());
         }
-        // Most of ours pass it over.
+        // Most of ours pass it over, and `emit` needn't be asked.
         match self.home.change_at(engine, change) {
             Event::PassedOver => Ok(()),
             event => emit(&self.home, event, effects),
@@ -75,6 +75,7 @@ impl SignalBox {
         if to != self.home.number() {
             return send(to, Message::Waits(waits), effects);
         }
+        // These two lines, six times: a function that took the step as a closure would be longer than what it saves, and owe a clause on what the step gives.
         let event = self.home.waits(waits.engine, waits.section, waits.count);
         emit(&self.home, event, effects)
     }

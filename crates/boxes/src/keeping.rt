@@ -1,6 +1,6 @@
 // What a box makes of messages for its sections.
 ghost use Rattle.std.specs.Prelude.{◌≡◌, OnOk};
-ghost use Rattle.boxes.specs.Log.{log_of, sent};
+ghost use Rattle.boxes.specs.Log.{log_of};
 ghost use Rattle.boxes.specs.Model.{state_of};
 ghost use Rattle.boxes.specs.Keeping.{answered, called_at, changes_of, change_to, for_us, ruled_log, which_at};
 

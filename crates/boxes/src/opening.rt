@@ -29,6 +29,7 @@ fn is_sound(home: &Home, record: Record) -> bool
 }
 
 impl SignalBox {
+    // What a kept call makes of the box; None if it couldn't have been written.
     fn replay_kept(&mut self, call: Call) -> Option<()>
         ensures { (state_of self.new, is_some result) ≡ kept_here (state_of self.old) call }
     {
@@ -39,6 +40,7 @@ impl SignalBox {
         Some(())
     }
 
+    // What a record of the home makes of it; None if it couldn't have been written.
     fn replay_ours(&mut self, record: Record) -> Option<()>
         ensures { (state_of self.new, is_some result) ≡ home_again (state_of self.old) «record» }
     {

@@ -55,7 +55,7 @@ fn remind(home: &Home, engine: Engine, effects: &mut Effects) -> Result<(), Faul
 
 impl SignalBox {
     // Open calls, waits and signs again: what was lost comes in the end.
-    // This loop and that of the reminders stay two: a function that took the step as a closure would be longer than both.
+    // The box's loops over engines or boxes are each a `for` of one line: a function that took the step as a closure would say no less, and owe a clause of its own.
     pub(crate) fn second(&self, effects: &mut Effects) -> Result<(), Fault>
         ensures { OnOk result (log_of effects.new ≡ second_of self.now.home (log_of effects.old)) }
     {

@@ -22,11 +22,11 @@ fn ask(sections: &mut Sections, call: Call) -> Result<Done, Refusal>
 }
 
 // What a call is answered: who has its section now, of which change.
-fn answer_at(sections: &Sections, place: u8, res: Result<Done, Refusal>) -> Answer
-    ensures { result ≡ answer_of (table_of sections.now) place res }
+fn answer_at(sections: &Sections, place: u8, outcome: Result<Done, Refusal>) -> Answer
+    ensures { result ≡ answer_of (table_of sections.now) place outcome }
 {
     Answer {
-        reply: words::reply(res),
+        reply: words::reply(outcome),
         holder: sections.holder(place).map(Engine),
         change: sections.change(place),
     }

@@ -18,10 +18,10 @@ fn refusal(from: sections::Refusal) -> Refusal
     }
 }
 
-pub(crate) fn reply(res: Result<Done, sections::Refusal>) -> Reply
-    ensures { result ≡ reply_of res }
+pub(crate) fn reply(outcome: Result<Done, sections::Refusal>) -> Reply
+    ensures { result ≡ reply_of outcome }
 {
-    match res {
+    match outcome {
         Ok(Done::Waits(_)) => Reply::Waits,
         Ok(Done::Had | Done::LetGo(_) | Done::Left) => Reply::Done,
         Err(why) => Reply::Refused(refusal(why)),
@@ -30,10 +30,10 @@ pub(crate) fn reply(res: Result<Done, sections::Refusal>) -> Reply
 
 impl Verdict {
     // What came of a call that was put to the sections.
-    pub(crate) fn of(answer: Answer, res: Result<Done, sections::Refusal>) -> Verdict
-        ensures { result ≡ verdict_of answer res }
+    pub(crate) fn of(answer: Answer, outcome: Result<Done, sections::Refusal>) -> Verdict
+        ensures { result ≡ verdict_of answer outcome }
     {
-        match res {
+        match outcome {
             Ok(Done::LetGo(Some(_))) => Verdict::PassedOn(answer),
             Ok(Done::LetGo(None) | Done::Had | Done::Waits(_) | Done::Left) => Verdict::Done(
                 answer,
