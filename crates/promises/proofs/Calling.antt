@@ -16,7 +16,7 @@ use Rattle.messages.specs.declared.message.Reply.TheVariants as reply
 use Rattle.signs.specs.declared.Engine as signs
 use Rattle.signs.specs.declared.Heard as spoken
 use Rattle.signs.specs.declared.Heard.TheVariants.{TellOn, Found, PassedOver}
-use Rattle.signs.specs.declared.Refusal as sign_refusal
+use Rattle.signs.specs.declared.Refusal as signRefusal
 use Rattle.signs.specs.Signs as whom
 use Rattle.signs.specs.Signs.{begin_of, listen_of}
 use Rattle.engine_state.specs.declared.state.Event.{Event}
@@ -120,7 +120,7 @@ HadBy e m (event.Began start) = Unit {0}
 HadBy e m (event.Heard f s) = Unit {0}
 HadBy e m (event.Noted telling) = Unit {0}
 
-begun_had : (m : Mode) (x : State) (e : Engine) (s : Section) (c : ℕ) (w : Engine) (r : Result signs.Engine sign_refusal.Refusal) → HadBy e m (begun_with x e s c w r).1
+begun_had : (m : Mode) (x : State) (e : Engine) (s : Section) (c : ℕ) (w : Engine) (r : Result signs.Engine signRefusal.Refusal) → HadBy e m (begun_with x e s c w r).1
 begun_had m x e s c w (Ok y) = tt
 begun_had m x e s c w (Err r) = tt
 
@@ -197,7 +197,7 @@ found_had : (x : State) (e : Engine) (m : Mode) (r : Result Call Refusal) → Ha
 found_had x e m (Ok c) = tt
 found_had x e m (Err r) = tt
 
-listened_had : (x : State) (e : Engine) (m : Mode) (s : Section) (r : Result (signs.Engine × spoken.Heard) sign_refusal.Refusal) → HadBy e m (listened x e s r).1
+listened_had : (x : State) (e : Engine) (m : Mode) (s : Section) (r : Result (signs.Engine × spoken.Heard) signRefusal.Refusal) → HadBy e m (listened x e s r).1
 listened_had x e m s (Err r) = tt
 listened_had x e m s (Ok (y, TellOn v)) = tt
 listened_had x e m s (Ok (y, Found)) = found_had x e m (next_call x act.GiveUp e s)

@@ -21,7 +21,7 @@ use Rattle.keeper.specs.Homes.{told_of}
 use Rattle.keeper.specs.Words.{holder_of}
 use Rattle.sections.specs.Table.{change_number_at, holder_at}
 use Rattle.signs.specs.declared.Engine as signs
-use Rattle.signs.specs.declared.Refusal as sign_refusal
+use Rattle.signs.specs.declared.Refusal as signRefusal
 use Rattle.signs.specs.Signs.{begin_of}
 use Rattle.engine_state.specs.declared.state.Event.{Event}
 use Rattle.engine_state.specs.declared.state.Event.TheVariants as event
@@ -252,7 +252,7 @@ OfChange s (event.Began start) = start.section ≡ s
 OfChange s (event.Heard e v) = Unit {0}
 OfChange s (event.Noted telling) = Unit {0}
 
-begun_of : (x : State) (e : Engine) (s : Section) (c : ℕ) (w : Engine) (r : Result signs.Engine sign_refusal.Refusal) → OfChange s (begun_with x e s c w r).1
+begun_of : (x : State) (e : Engine) (s : Section) (c : ℕ) (w : Engine) (r : Result signs.Engine signRefusal.Refusal) → OfChange s (begun_with x e s c w r).1
 begun_of x e s c w (Ok y) = refl
 begun_of x e s c w (Err r) = tt
 

@@ -7,7 +7,6 @@ pub fn told_in_a_ring()
 {}
 
 // A ring stays a ring, unless one of it had been told.
-#[tactic(auto, using(crate::proofs::Told::ring_stays))]
 pub fn ring_stays()
     ensures { RingStays }
 {}

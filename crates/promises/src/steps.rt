@@ -12,7 +12,6 @@ pub fn cut_changes_nothing()
 {}
 
 // The same message again changes no box.
-#[tactic(auto, using(crate::proofs::Again::again_changes_nothing))]
 pub fn again_changes_nothing()
     ensures { AgainChangesNothing }
 {}
