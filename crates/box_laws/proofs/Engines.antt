@@ -20,7 +20,7 @@ use Rattle.messages.specs.declared.message.Reply.TheVariants as reply
 use Rattle.messages.specs.Range.{CallIn, EngineIn, HolderIn, MessageIn, RecordIn, SectionIn}
 use Rattle.sections.proofs.Tables.{set_read}
 use Rattle.signs.specs.declared.Engine as signs
-use Rattle.signs.specs.declared.Refusal as signRefusal
+use Rattle.signs.specs.declared.Refusal as sign_refusal
 use Rattle.signs.specs.declared.Heard as sound
 use Rattle.signs.specs.declared.Heard.TheVariants.{TellOn, Found, PassedOver}
 use Rattle.signs.specs.Signs as whom
@@ -185,7 +185,7 @@ module _ (y : Yard) where
   Gives p = EventIn y p.1
 
   -- a sign and a count that were taken fit their bytes
-  abbrev RoomIn : Result signs.Engine signRefusal.Refusal → Type 0
+  abbrev RoomIn : Result signs.Engine sign_refusal.Refusal → Type 0
   RoomIn (Err r) = Unit {0}
   RoomIn (Ok g) = (g.count < 2 ^ 32) × (g.own < 2 ^ 64)
 
@@ -200,7 +200,7 @@ module _ (y : Yard) where
       (λ _. tt)))
 
   begun_in :
-      (x : State) (e : Engine) (s : Section) (change : ℕ) (w : Engine) (r : Result signs.Engine signRefusal.Refusal) → EngineIn y e → SectionIn y s → change < 2 ^ 32 → EngineIn y w →
+      (x : State) (e : Engine) (s : Section) (change : ℕ) (w : Engine) (r : Result signs.Engine sign_refusal.Refusal) → EngineIn y e → SectionIn y s → change < 2 ^ 32 → EngineIn y w →
       RoomIn r → Gives (begun_with x e s change w r)
   begun_in x e s change w (Err r) ei si ci wi room = tt
   begun_in x e s change w (Ok g) ei si ci wi room = (ei, si, ci, wi, room.0, room.1)
@@ -337,7 +337,7 @@ module _ (y : Yard) where
   gave_up_in x (Ok c) i = i
 
   -- a sign that is told on is the one that came
-  abbrev SignIn : Result (signs.Engine × sound.Heard) signRefusal.Refusal → Type 0
+  abbrev SignIn : Result (signs.Engine × sound.Heard) sign_refusal.Refusal → Type 0
   SignIn (Err r) = Unit {0}
   SignIn (Ok (g, TellOn sign)) = sign < 2 ^ 64
   SignIn (Ok (g, Found)) = Unit {0}
@@ -349,7 +349,7 @@ module _ (y : Yard) where
       (λ _. cond_both (waits_by g by count) _ _ SignIn (λ _. cond_both (ltb g.shown sign) _ _ SignIn (λ _. small) (λ _. tt)) (λ _. tt))
       (λ _. cond_both (waits_by g by count) _ _ SignIn (λ _. cond_both (eqb sign g.own && eqb g.shown g.own) _ _ SignIn (λ _. tt) (λ _. tt)) (λ _. tt))
 
-  listened_in : (x : State) (e : Engine) (s : Section) (r : Result (signs.Engine × sound.Heard) signRefusal.Refusal) → EngineIn y e → SectionIn y s → SignIn r → Gives (listened x e s r)
+  listened_in : (x : State) (e : Engine) (s : Section) (r : Result (signs.Engine × sound.Heard) sign_refusal.Refusal) → EngineIn y e → SectionIn y s → SignIn r → Gives (listened x e s r)
   listened_in x e s (Err r) ei si i = tt
   listened_in x e s (Ok (g, TellOn sign)) ei si i = (ei, i)
   listened_in x e s (Ok (g, Found)) ei si i = gave_up_in x (next_call x act.GiveUp e s) (next_in x act.GiveUp e s ei si)

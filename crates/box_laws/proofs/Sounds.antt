@@ -15,7 +15,7 @@ use Rattle.messages.specs.declared.message.Refusal.TheVariants as refusal
 use Rattle.messages.specs.declared.message.Reply.{Reply}
 use Rattle.messages.specs.declared.message.Reply.TheVariants as reply
 use Rattle.signs.specs.declared.Engine as signs
-use Rattle.signs.specs.declared.Refusal as signRefusal
+use Rattle.signs.specs.declared.Refusal as sign_refusal
 use Rattle.signs.specs.declared.Heard as sound
 use Rattle.signs.specs.declared.Heard.TheVariants.{TellOn, Found, PassedOver}
 use Rattle.signs.specs.Signs.{begin_of, has_room, listen_of, next_own, out_of_range}
@@ -59,7 +59,7 @@ module _ (engines : ℕ) where
   abbrev Gives : State → State × Event → Type 0
   Gives x p = Sound engines x p.1
 
-  abbrev OwnIs : signs.Engine → ℕ → Result signs.Engine signRefusal.Refusal → Type 0
+  abbrev OwnIs : signs.Engine → ℕ → Result signs.Engine sign_refusal.Refusal → Type 0
   OwnIs g me (Err r) = Unit {0}
   OwnIs g me (Ok f) = (f.own % engines ≡ me) × (f.count ≡ g.count + 1)
 
@@ -72,7 +72,7 @@ module _ (engines : ℕ) where
       cond_both (eqb w me) _ _ (OwnIs g me) (λ _. tt)
       (λ _. cond_both (has_room g (next_own g.shown me engines)) _ _ (OwnIs g me) (λ _. ((own_is_lowest g.shown me engines (leb-false engines me last.1)).leaves, refl)) (λ _. tt)))
 
-  begun_sound : (x : State) (e : Engine) (s : Section) (change : ℕ) (w : Engine) (r : Result signs.Engine signRefusal.Refusal) → OwnIs x.signs e.0 r → Gives x (begun_with x e s change w r)
+  begun_sound : (x : State) (e : Engine) (s : Section) (change : ℕ) (w : Engine) (r : Result signs.Engine sign_refusal.Refusal) → OwnIs x.signs e.0 r → Gives x (begun_with x e s change w r)
   begun_sound x e s change w (Err r) is = tt
   begun_sound x e s change w (Ok g) is = is
 
@@ -134,7 +134,7 @@ module _ (engines : ℕ) where
   gave_up_sound x (Err r) is = tt
   gave_up_sound x (Ok c) is = is
 
-  listened_sound : (x : State) (e : Engine) (s : Section) (r : Result (signs.Engine × sound.Heard) signRefusal.Refusal) → Gives x (listened x e s r)
+  listened_sound : (x : State) (e : Engine) (s : Section) (r : Result (signs.Engine × sound.Heard) sign_refusal.Refusal) → Gives x (listened x e s r)
   listened_sound x e s (Err r) = tt
   listened_sound x e s (Ok (g, TellOn sign)) = tt
   listened_sound x e s (Ok (g, Found)) = gave_up_sound x (next_call x act.GiveUp e s) (next_is x act.GiveUp e s)

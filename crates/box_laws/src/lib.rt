@@ -16,11 +16,13 @@ pub fn turned_away_by_a_box()
 {}
 
 // Where all that came was in range, so is all that was recorded.
+#[tactic(auto, using(crate::proofs::Twice::records_in_range))]
 pub fn records_in_range()
     ensures { RecordsInRange }
 {}
 
 // The same bytes from the same box again change nothing.
+#[tactic(auto, using(crate::proofs::Twice::same_bytes_again))]
 pub fn same_bytes_again()
     ensures { SameBytesAgain }
 {}

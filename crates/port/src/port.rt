@@ -2,7 +2,7 @@
 ghost use Rattle.world.specs.Runs.{Reached};
 ghost use Rattle.world.specs.World.{world_of};
 
-pub mod playing;
+mod playing;
 
 use world::World;
 

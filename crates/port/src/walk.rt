@@ -7,9 +7,8 @@ ghost use Rattle.world.specs.World.{state_at, world_of};
 ghost use Rattle.port.specs.Walk.{after_of, ring_from, whom_at, whom_by, whom_in, whom_of};
 
 use keeper::Keeper;
-use messages::{BoxNumber, Engine};
+use messages::{BoxNumber, Engine, PLACES};
 use ring_search::walk::{Waits, way_back};
-use sections::PLACES;
 use std::alloc::{AllocError, Global};
 use world::World;
 
@@ -20,7 +19,7 @@ fn stands(keeper: &Keeper, engine: Engine, place: u8) -> bool
     keeper.waiters(place).contains(&engine.0)
 }
 
-// Who has the section at a place, if the engine stands in its queue.
+// Who has the section at a place, if the engine stands in its queue. None: it stands in no queue here; Some(None): in one of a section that nobody has.
 fn whom_at(keeper: &Keeper, engine: Engine, place: u8) -> Option<Option<Engine>>
     ensures { result ≡ whom_at (model_of keeper.now).table engine.0 place }
 {

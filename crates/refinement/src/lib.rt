@@ -1,2 +1,2 @@
-// Each step of a box is steps of the model of the yard: what that rests on. Each function carries one theorem in its contract, and does nothing.
+// Each step of a box is steps of the model of the yard: the proofs that the promises rest on. No code of its own.
 #![tactic(auto)]

@@ -8,9 +8,8 @@ mod text;
 use anyhow::anyhow;
 use journal::Output;
 use keeper::Keeper;
-use messages::{BoxNumber, Engine, Section};
+use messages::{BoxNumber, Engine, PLACES, Section};
 use script::Line;
-use sections::PLACES;
 use show::{EngineLine, SectionLine};
 use std::alloc::Global;
 use std::io::{self, BufRead, BufReader, BufWriter, Write};
@@ -77,7 +76,7 @@ fn print_world<W: Write>(out: &mut W, world: &World) -> io::Result<()> {
             let line = EngineLine {
                 engine,
                 state,
-                boxes: home.yard().boxes,
+                boxes: yard.boxes,
             };
             writeln!(out, "{line}")?;
         }

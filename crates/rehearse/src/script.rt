@@ -117,5 +117,5 @@ pub fn yard(line: &[u8]) -> Option<Yard>
     if boxes > MOST || engines > MOST {
         return None;
     }
-    Yard::new(boxes as u8, engines as u8)
+    Yard::new(u8::try_from(boxes).ok()?, u8::try_from(engines).ok()?)
 }

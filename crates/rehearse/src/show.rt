@@ -2,8 +2,7 @@
 use crate::text::Spot;
 use engine_state::State;
 use keeper::Keeper;
-use messages::{Act, BoxNumber, Engine, Section};
-use sections::PLACES;
+use messages::{Act, BoxNumber, Engine, PLACES, Section};
 use std::fmt;
 
 // The line of a section that somebody has.
@@ -31,7 +30,7 @@ impl fmt::Display for SectionLine<'_> {
     }
 }
 
-// Acts and this trait of printing are both of other crates, so it is a function.
+// Acts and this trait of printing are both of other crates, so it is a function, and it is needed once.
 fn act_word(act: Act) -> &'static str {
     match act {
         Act::Take => "take",

@@ -2,11 +2,10 @@
 use crate::kind::{Kind, ONLY_BOX, WANTED};
 use boxes::{Input, SignalBox};
 use journal::{Effects, Fault, MemoryFile, OpenFault, open};
-use messages::{Engine, Message, Section, Yard, encode};
+use messages::{Engine, MOST_ENGINES, Message, Section, Yard, encode};
 use std::alloc::Global;
 use std::collections::VecDeque;
-
-const ENGINES: u8 = 64;
+use std::fmt;
 
 // More than filling the box takes at any of its inputs.
 const ENOUGH: usize = 1000;
@@ -17,6 +16,30 @@ pub struct Full {
     heap: Global,
 }
 
+// Why the box can't be filled.
+#[derive(Clone, Copy, PartialEq, Eq, Debug)]
+pub enum Unfilled {
+    NoYard,
+    Endless,
+    Fault(Fault),
+}
+
+impl From<Fault> for Unfilled {
+    fn from(fault: Fault) -> Unfilled {
+        Unfilled::Fault(fault)
+    }
+}
+
+impl fmt::Display for Unfilled {
+    fn fmt<W: fmt::Write>(&self, f: &mut fmt::Formatter<W>) -> fmt::Result {
+        match *self {
+            Unfilled::NoYard => f.write_str("there is no such yard"),
+            Unfilled::Endless => f.write_str("what it sends to itself doesn't end"),
+            Unfilled::Fault(fault) => write!(f, "its file: {fault}"),
+        }
+    }
+}
+
 // How much came of a turn.
 #[derive(Clone, Copy)]
 pub struct Count {
@@ -25,14 +48,14 @@ pub struct Count {
 }
 
 impl Full {
-    pub fn new(heap: Global) -> Result<Full, Fault> {
-        let yard = Yard::new(1, ENGINES).ok_or(Fault::Open)?;
+    pub fn new(heap: Global) -> Result<Full, Unfilled> {
+        let yard = Yard::new(1, MOST_ENGINES).ok_or(Unfilled::NoYard)?;
         let mut full = Full {
             signal_box: SignalBox::new(yard, ONLY_BOX),
             heap,
         };
         // Numbers, and not places of a list: each engine takes the section of its own number, then all but the first want one.
-        for place in 0u8..ENGINES - 1 {
+        for place in 0u8..MOST_ENGINES - 1 {
             full.run_out(
                 Engine(place),
                 Section {
@@ -41,18 +64,19 @@ impl Full {
                 },
             )?;
         }
-        for engine in 1u8..ENGINES {
+        for engine in 1u8..MOST_ENGINES {
             full.run_out(Engine(engine), WANTED)?;
         }
         Ok(full)
     }
 
     // Lets an engine take a section, and delivers all that the box sends to itself because of it.
-    fn run_out(&mut self, engine: Engine, section: Section) -> Result<(), Fault> {
+    fn run_out(&mut self, engine: Engine, section: Section) -> Result<(), Unfilled> {
         let mut file = MemoryFile::new(self.heap);
         let mut own = VecDeque::new(self.heap);
         let effects = self.handle(Input::Take { engine, section })?;
         finish(effects, &mut file, &mut own)?;
+        // Bounded, as each loop has to have an end.
         for _ in 0..ENOUGH {
             let Some(message) = own.pop_front() else {
                 return Ok(());
@@ -60,7 +84,7 @@ impl Full {
             let effects = self.deliver(message)?;
             finish(effects, &mut file, &mut own)?;
         }
-        Err(Fault::Append)
+        Err(Unfilled::Endless)
     }
 
     fn handle(&mut self, input: Input) -> Result<Effects, Fault> {

@@ -1,7 +1,7 @@
 // A box with its file.
 ghost use Rattle.std.specs.Prelude.{◌≡◌, vec_len};
 
-pub mod running;
+mod running;
 
 use boxes::SignalBox;
 use journal::MemoryFile;

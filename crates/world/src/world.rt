@@ -1,5 +1,5 @@
 // Boxes, their files, and all messages ever sent.
-pub mod playing;
+mod playing;
 
 use crate::envelope::Envelope;
 use crate::station::Station;

@@ -1,13 +1,12 @@
 // Each step: one input at one box, its records stored, what it sends added to all that was sent.
-ghost use Rattle.std.specs.Prelude.{◌≡◌, List, [], ◌∷◌, ◌++◌, map, IfOk, OnOk};
+ghost use Rattle.std.specs.Prelude.{◌≡◌, [], ◌∷◌, ◌++◌, map, IfOk, OnOk};
 ghost use Rattle.std.specs.Option.{option_map};
 ghost use Rattle.boxes.specs.Model.{state_of};
 ghost use Rattle.std.specs.List.{flat_map};
 ghost use Rattle.world.specs.Station.{Restarts, delivered_at, handled_at, station_of};
-ghost use Rattle.world.specs.World.{Makes, Stops, answer_of, at_box, carried, carried_cut, cut_of, deliver_of, empty, envelope_for, envelope_of, free_of, second_of, sent_by, spoken, state_at, take_of, world_of};
+ghost use Rattle.world.specs.World.{Found, Makes, Stops, answer_of, at_box, carried, carried_cut, cut_of, deliver_of, empty, envelope_for, envelope_of, free_of, second_of, sent_by, spoken, state_at, take_of, world_of};
 ghost use Rattle.journal.specs.Effect.{said_of};
 ghost use Rattle.world.specs.Turn.{Turned, TurnsAt};
-ghost use Rattle.world.specs.World.{Found};
 
 use crate::envelope::Envelope;
 use crate::station::Station;
@@ -58,6 +57,7 @@ impl World {
         ensures { IfOk result (λ w. world_of w ≡ empty yard) }
     {
         let mut stations = Vec::new(heap);
+        // Stations are made by number, and the number is how many there are.
         for number in 0u8..yard.boxes {
             stations.push(Station::new(yard, BoxNumber(number), heap))?;
         }
@@ -201,6 +201,7 @@ impl World {
     {
         let heap = self.heap;
         let yard = self.yard;
+        // The closure has its clause written: what a stop gives is a relation, and no equation.
         self.turn_at(
             at,
             move |station: &mut Station| -> Result<Said, OpenFault>
