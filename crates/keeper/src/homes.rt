@@ -8,6 +8,7 @@ use crate::Keeper;
 use messages::{BoxNumber, Engine, Yard};
 
 impl Keeper {
+    // Holder and queue are asked apart, each with its own clause: the place, the yard and the box come along twice.
     fn is_home_of_holder(&self, place: u8, yard: Yard, number: BoxNumber) -> bool
         ensures { result ≡ home_of_holder yard number.0 (holder_at (model_of self.now).table place) }
     {

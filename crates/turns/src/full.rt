@@ -5,7 +5,6 @@ use journal::{Effects, Fault, MemoryFile, OpenFault, open};
 use messages::{Engine, MOST_ENGINES, Message, Section, Yard, encode};
 use std::alloc::Global;
 use std::collections::VecDeque;
-use std::fmt;
 
 // More than filling the box takes at any of its inputs.
 const ENOUGH: usize = 1000;
@@ -27,16 +26,6 @@ pub enum Unfilled {
 impl From<Fault> for Unfilled {
     fn from(fault: Fault) -> Unfilled {
         Unfilled::Fault(fault)
-    }
-}
-
-impl fmt::Display for Unfilled {
-    fn fmt<W: fmt::Write>(&self, f: &mut fmt::Formatter<W>) -> fmt::Result {
-        match *self {
-            Unfilled::NoYard => f.write_str("there is no such yard"),
-            Unfilled::Endless => f.write_str("what it sends to itself doesn't end"),
-            Unfilled::Fault(fault) => write!(f, "its file: {fault}"),
-        }
     }
 }
 

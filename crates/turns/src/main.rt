@@ -23,7 +23,7 @@ fn main(rt: HostRuntime) -> Result<()> {
     let heap = rt.alloc();
     for line in BufReader::new(heap, rt.stdin())?.lines(heap) {
         let (kind, times) = task(line?.as_str()).context(USAGE)?;
-        let mut full = Full::new(heap).map_err(|why| anyhow!("the box can't be filled: {why}"))?;
+        let mut full = Full::new(heap).map_err(|_| anyhow!("the box can't be filled"))?;
         let Count { records, said } = full
             .turns(kind, times)
             .map_err(|_| anyhow!("a turn failed"))?;
