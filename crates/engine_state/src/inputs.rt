@@ -118,7 +118,7 @@ impl State {
         }
     }
 
-    // An answer of the box `from` to the call `number`.
+    // An answer of the box `from` to the call `number`: with the engine, five things that come from five places, and together nowhere else.
     #[tactic(auto, unfolding(crate::specs::Inputs::answer_at))]
     pub fn answer(
         self,

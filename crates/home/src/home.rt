@@ -33,7 +33,7 @@ pub fn is_home(yard: Yard, number: BoxNumber, engine: Engine) -> bool
 }
 
 impl Home {
-    // A box of which there is no record yet.
+    // A box of which there is no record yet. The yard and the box's number are handed in side by side: each is asked for alone, and together only where a box is made.
     pub fn new(yard: Yard, number: BoxNumber) -> Home
         ensures { result ≡ fresh_home yard number }
     {

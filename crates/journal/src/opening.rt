@@ -45,7 +45,7 @@ impl From<Unread> for OpenFault {
     }
 }
 
-// What the file has; it isn't changed.
+// What the file has; it isn't changed. Here and below file, yard and heap are lent or handed in by three owners.
 pub fn read_back<F: File>(file: &mut F, yard: Yard, heap: Global) -> Result<Replay, OpenFault>
     ensures found { (xs : List ℕ) (n : ℕ) → F.File.holds file.old xs n → F.File.holds file.new xs n × Found yard xs result }
     ensures whole { IfOk result (λ p. p.length ≡ size (written p.records.items)) }

@@ -19,7 +19,7 @@ pub enum Line {
     Second,
 }
 
-// A number of one or two digits, and how many they are.
+// A number of one or two digits, and how many they are: what a line says goes by the place at which a number ends.
 #[derive(Clone, Copy)]
 pub(crate) struct Number {
     value: u8,

@@ -1,4 +1,4 @@
-// From bytes to a message: the whole of them is one, or it is turned away.
+// From bytes to a message: the whole of them is one, or it is turned away. Each reader is a function of the yard and of the bytes that are left, as its definition is.
 ghost use Rattle.std.specs.Prelude.{◌≡◌, ◌+◌, ◌≤◌, length};
 ghost use Rattle.std.specs.Option.{ok_or};
 ghost use Rattle.messages.specs.Journal.{whole_call};

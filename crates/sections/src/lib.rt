@@ -13,7 +13,7 @@ mod row;
 
 use row::Row;
 
-// Engines, and the places of a box's sections, are numbered from 0 to 63.
+// Engines, and the places of a box's sections, are numbered from 0 to 63. The constants are this crate's own, since it leans on no other.
 pub const ENGINES: u8 = 64;
 
 pub const PLACES: u8 = 64;

@@ -58,7 +58,7 @@ impl Queue {
         engine < ENGINES && (self.set >> engine) & 1 == 1
     }
 
-    // An engine that isn't in the queue joins it, at its end.
+    // An engine that isn't in the queue joins it, at its end. Here and below an engine is a plain number: the calls have tested it, and a type for it would be made and opened at each.
     pub fn join(&mut self, engine: u8)
         requires known { engine < 64 }
         requires absent { is_in engine (engines_of self.old) ≡ false }

@@ -5,7 +5,7 @@ ghost use Rattle.signs.specs.Table.{fresh_of, get_of, put_of, FreshSigns, PutOne
 
 use super::{Engine, Refusal};
 
-// How many engines a yard has at most.
+// How many engines a yard has at most: this crate's own constant, since it leans on no other.
 pub const ENGINES: u8 = 64;
 
 // Four arrays of sixty-four side by side: a rule of the project, so that a box is fixed arrays of plain numbers.
