@@ -6,7 +6,7 @@ ghost use Rattle.signs.specs.Signs.{listen_of};
 
 use crate::state::{Event, Known, State};
 use messages::{
-    Act, Answer, Beginning, BoxNumber, Call, Change, Engine, Refusal, Reply, Section, Sign, Yard,
+    Act, Answer, Beginning, BoxNumber, Call, Change, Engine, Refusal, Reply, Section, Sign,
 };
 
 // The refusals of signs by the yard's numbers. No `From`: both types are other crates', and Rust wants it beside one of them.
@@ -29,19 +29,19 @@ impl State {
         step.unwrap_or_else(|refusal| (self, Event::Refused(refusal)))
     }
 
-    // Begins to wait for `whom`, which has the section since that change.
+    // Begins to wait for `whom`, which has the section since that change, in a yard of so many engines.
     fn begin(
         self,
         engine: Engine,
-        yard: Yard,
+        engines: u8,
         change: Change,
         whom: Engine,
     ) -> Result<(State, Event), Refusal>
-        ensures { told self result ≡ begin_at self engine yard.engines change.section change.change whom }
+        ensures { told self result ≡ begin_at self engine engines change.section change.change whom }
     {
         let after = self
             .signs
-            .begin(engine.0, yard.engines, whom.0)
+            .begin(engine.0, engines, whom.0)
             .map_err(refused_for)?;
         let start = Beginning {
             engine,
@@ -55,8 +55,8 @@ impl State {
     }
 
     // The answer to an open take.
-    fn taken(self, call: Call, yard: Yard, answer: Answer) -> Result<(State, Event), Refusal>
-        ensures { told self result ≡ taken_by self call yard.engines answer.reply answer.holder answer.change }
+    fn taken(self, call: Call, engines: u8, answer: Answer) -> Result<(State, Event), Refusal>
+        ensures { told self result ≡ taken_by self call engines answer.reply answer.holder answer.change }
     {
         match (answer.reply, answer.holder) {
             (Reply::Done, _) => Ok((
@@ -72,7 +72,7 @@ impl State {
                     holder: answer.holder,
                     change: answer.change,
                 };
-                self.begin(call.engine, yard, change, whom)
+                self.begin(call.engine, engines, change, whom)
             }
             (Reply::Waits, _) => Err(Refusal::WrongCall),
             (Reply::Refused(Refusal::Exhausted), _) => Err(Refusal::Exhausted),
@@ -109,11 +109,11 @@ impl State {
         self.open_call(engine).filter(|call| call.section.keeper == from && call.number == number)
     }
 
-    fn answer_to(self, call: Call, yard: Yard, answer: Answer) -> Result<(State, Event), Refusal>
-        ensures { told self result ≡ answer_to self call yard.engines answer.reply answer.holder answer.change call.act }
+    fn answer_to(self, call: Call, engines: u8, answer: Answer) -> Result<(State, Event), Refusal>
+        ensures { told self result ≡ answer_to self call engines answer.reply answer.holder answer.change call.act }
     {
         match call.act {
-            Act::Take => self.taken(call, yard, answer),
+            Act::Take => self.taken(call, engines, answer),
             Act::Free | Act::GiveUp => self.ended(call, answer),
         }
     }
@@ -124,16 +124,16 @@ impl State {
         self,
         from: BoxNumber,
         engine: Engine,
-        yard: Yard,
+        engines: u8,
         number: u32,
         answer: Answer,
     ) -> (State, Event)
-        ensures { result ≡ answer_at self from engine yard.engines number answer.reply answer.holder answer.change }
+        ensures { result ≡ answer_at self from engine engines number answer.reply answer.holder answer.change }
     {
         self.told(
             self.awaited(from, engine, number)
                 .ok_or(Refusal::WrongCall)
-                .and_then(|call| self.answer_to(call, yard, answer)),
+                .and_then(|call| self.answer_to(call, engines, answer)),
         )
     }
 
@@ -149,10 +149,10 @@ impl State {
     fn passed_to(
         self,
         engine: Engine,
-        yard: Yard,
+        engines: u8,
         change: Change,
     ) -> Result<(State, Event), Refusal>
-        ensures { told self result ≡ passed_to self engine yard.engines change.section change.change change.holder }
+        ensures { told self result ≡ passed_to self engine engines change.section change.change change.holder }
     {
         match change.holder {
             None => Ok((self, Event::PassedOver)),
@@ -163,17 +163,17 @@ impl State {
                     section: change.section,
                 },
             )),
-            Some(whom) => self.begin(engine, yard, change, whom),
+            Some(whom) => self.begin(engine, engines, change, whom),
         }
     }
 
     // A section has passed on, by that change.
     #[tactic(auto, unfolding(crate::specs::Inputs::change_at))]
-    pub fn change_at(self, engine: Engine, yard: Yard, change: Change) -> (State, Event)
-        ensures { result ≡ change_at self engine yard.engines change.section change.holder change.change }
+    pub fn change_at(self, engine: Engine, engines: u8, change: Change) -> (State, Event)
+        ensures { result ≡ change_at self engine engines change.section change.holder change.change }
     {
         if self.is_later(change) {
-            self.told(self.passed_to(engine, yard, change))
+            self.told(self.passed_to(engine, engines, change))
         } else {
             (self, Event::PassedOver)
         }

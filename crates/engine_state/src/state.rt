@@ -228,7 +228,7 @@ impl State {
         }
     }
 
-    pub(crate) fn knowing(self, known: Known) -> State
+    pub fn knowing(self, known: Known) -> State
         ensures { result ≡ knowing self known }
     {
         State { known, ..self }

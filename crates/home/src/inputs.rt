@@ -102,10 +102,10 @@ impl Home {
     pub fn answer(&mut self, from: BoxNumber, engine: Engine, number: u32, answer: Answer) -> Event
         ensures { (self.new, result) ≡ answer_of self.old from engine number answer.reply answer.holder answer.change }
     {
-        let yard = self.yard;
+        let engines = self.yard.engines;
         self.at(
             engine,
-            |state| state.answer(from, engine, yard, number, answer),
+            |state| state.answer(from, engine, engines, number, answer),
         )
     }
 
@@ -125,8 +125,8 @@ impl Home {
         if self.is_ours(engine) && !self.awaits(engine, change) {
             return Event::PassedOver;
         }
-        let yard = self.yard;
-        self.at(engine, |state| state.change_at(engine, yard, change))
+        let engines = self.yard.engines;
+        self.at(engine, |state| state.change_at(engine, engines, change))
     }
 
     // A sign told to one of ours by `from`, the home of the one that shows it.
