@@ -119,7 +119,7 @@ refused_event h event.Closed no-report first = absurd (not_first none tt first)
 refused_event h (event.Called c) no-report first = absurd (not_first (emit_of h (event.Called c) none) (tt, tt) first)
 refused_event h (event.Found c) no-report first = absurd (not_first (emit_of h (event.Found c) none) (tt, (tt, tt)) first)
 refused_event h (event.Began start) no-report first =
-    absurd (not_first (emit_of h (event.Began start) none) (tells_speak h start.engine start.own (sent (recorded none (journal.Beginning (record { engine = start.engine; section = start.section; change = start.change; holder = start.holder; count = start.count; own = start.own }))) start.section.keeper (message.Waits (record { engine = start.engine; section = start.section; count = start.count; change = start.change }))) (tt, tt)) first)
+    absurd (not_first (emit_of h (event.Began start) none) (tells_speak h start.engine start.own (sent (recorded none (journal.Beginning start.holder (record { engine = start.engine; section = start.section; count = start.count; change = start.change }) start.own)) start.section.keeper (message.Waits (record { engine = start.engine; section = start.section; count = start.count; change = start.change }))) (tt, tt)) first)
 refused_event h (event.Heard e s) no-report first = absurd (not_first (emit_of h (event.Heard e s) none) (tells_speak h e s (recorded none (journal.Heard e s)) tt) first)
 refused_event h (event.Noted telling) no-report first = absurd (not_first (emit_of h (event.Noted telling) none) (tt, tt) first)
 

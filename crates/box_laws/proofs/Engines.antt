@@ -72,7 +72,7 @@ EventIn y (event.Had e s) = Unit {0}
 EventIn y event.Closed = Unit {0}
 EventIn y (event.Called c) = CallIn y c
 EventIn y (event.Found c) = CallIn y c
-EventIn y (event.Began start) = RecordIn y (journal.Beginning (record { engine = start.engine; section = start.section; change = start.change; holder = start.holder; count = start.count; own = start.own }))
+EventIn y (event.Began start) = RecordIn y (journal.Beginning start.holder (record { engine = start.engine; section = start.section; count = start.count; change = start.change }) start.own)
 EventIn y (event.Heard e sign) = RecordIn y (journal.Heard e sign)
 EventIn y (event.Noted telling) = MessageIn y (message.Sign (record { to = telling.to; count = telling.count; by = telling.by; sign = telling.sign }))
 
@@ -124,7 +124,7 @@ module _ (y : Yard) where
       }
 
   pub fit_begun :
-      (x : State) (e : Engine) (s : Section) (change : ℕ) (w : Engine) (count own : ℕ) → Fit y x → RecordIn y (journal.Beginning (record { engine = e; section = s; change = change; holder = w; count = count; own = own })) →
+      (x : State) (e : Engine) (s : Section) (change : ℕ) (w : Engine) (count own : ℕ) → Fit y x → RecordIn y (journal.Beginning w (record { engine = e; section = s; count = count; change = change }) own) →
       Fit y (state.begun x s change w count own)
   fit_begun x e s change w count own f i =
       record {

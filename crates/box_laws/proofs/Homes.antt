@@ -233,9 +233,9 @@ module _ (y : Yard) (n : ℕ) where
       sent_in y (said (recorded l (journal.Made c)) (output.GiveBack c.engine)) c.section.keeper (message.Call c)
       (said_in y (recorded l (journal.Made c)) (output.GiveBack c.engine) (recorded_in y l (journal.Made c) fine vi) tt) vi.1.0 vi
   emit_in h (event.Began start) l i vi fine =
-      tells_in h start.engine start.own (sent (recorded l (journal.Beginning (record { engine = start.engine; section = start.section; change = start.change; holder = start.holder; count = start.count; own = start.own }))) start.section.keeper (message.Waits (record { engine = start.engine; section = start.section; count = start.count; change = start.change }))) i vi.0 vi.5
-      (sent_in y (recorded l (journal.Beginning (record { engine = start.engine; section = start.section; change = start.change; holder = start.holder; count = start.count; own = start.own }))) start.section.keeper (message.Waits (record { engine = start.engine; section = start.section; count = start.count; change = start.change }))
-      (recorded_in y l (journal.Beginning (record { engine = start.engine; section = start.section; change = start.change; holder = start.holder; count = start.count; own = start.own })) fine vi) vi.1.0 (vi.0, vi.1, vi.4, vi.2))
+      tells_in h start.engine start.own (sent (recorded l (journal.Beginning start.holder (record { engine = start.engine; section = start.section; count = start.count; change = start.change }) start.own)) start.section.keeper (message.Waits (record { engine = start.engine; section = start.section; count = start.count; change = start.change }))) i vi.0 vi.5
+      (sent_in y (recorded l (journal.Beginning start.holder (record { engine = start.engine; section = start.section; count = start.count; change = start.change }) start.own)) start.section.keeper (message.Waits (record { engine = start.engine; section = start.section; count = start.count; change = start.change }))
+      (recorded_in y l (journal.Beginning start.holder (record { engine = start.engine; section = start.section; count = start.count; change = start.change }) start.own) fine vi) vi.1.0 (vi.0, vi.1, vi.4, vi.2))
   emit_in h (event.Heard e sign) l i vi fine = tells_in h e sign (recorded l (journal.Heard e sign)) i vi.0 vi.1 (recorded_in y l (journal.Heard e sign) fine vi)
   emit_in h (event.Noted telling) l i vi fine = sent_in y l (home_of h.yard telling.to) (message.Sign (record { to = telling.to; count = telling.count; by = telling.by; sign = telling.sign })) fine (home_in h telling.to i) vi
 

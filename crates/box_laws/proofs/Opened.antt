@@ -42,7 +42,7 @@ set_same ks e q = ap (λ (xs : List Known). set xs e known.Pending) q ∙ ap (se
 apply_bare : (h : Home) (r : Record) → Bare h → Bare (apply_of h r)
 apply_bare h (journal.Kept c) i = i
 apply_bare h (journal.Made c) i = cond_both (is_ours h c.engine) _ _ Bare (λ _. (set_same h.known c.engine.0 i.0, i.1)) (λ _. i)
-apply_bare h (journal.Beginning start) i = cond_both (is_ours h start.engine) _ _ Bare (λ _. (set_same h.known start.engine.0 i.0, i.1)) (λ _. i)
+apply_bare h (journal.Beginning holder waits own) i = cond_both (is_ours h waits.engine) _ _ Bare (λ _. (set_same h.known waits.engine.0 i.0, i.1)) (λ _. i)
 apply_bare h (journal.Heard e sign) i = cond_both (is_ours h e) _ _ Bare (λ _. (set-get_or h.known e.0 known.Pending ∙ i.0, i.1)) (λ _. i)
 
 again_bare : (b : State) (r : Record) → Bare b.home → Bare (home_again b r).0.home
@@ -51,7 +51,7 @@ again_bare b r i = cond_both (is_sound b.home r) _ _ (λ (p : State × Bool). Ba
 replay_bare : (b : State) (r : Record) → Bare b.home → Bare (replay_of b r).0.home
 replay_bare b (journal.Kept c) i = cond_both (eqb c.section.keeper.0 b.home.number.0) _ _ (λ (p : State × Bool). Bare p.0.home) (λ _. i) (λ _. i)
 replay_bare b (journal.Made c) i = again_bare b (journal.Made c) i
-replay_bare b (journal.Beginning start) i = again_bare b (journal.Beginning start) i
+replay_bare b (journal.Beginning holder waits own) i = again_bare b (journal.Beginning holder waits own) i
 replay_bare b (journal.Heard e sign) i = again_bare b (journal.Heard e sign) i
 
 pub replays_bare : (rs : List Record) (b c : State) → Replays b rs c → Bare b.home → Bare c.home

@@ -126,7 +126,7 @@ ours_same h g p q e = ap (λ (y : Yard). is_home y h.number e) p ∙ ap (λ (n :
 sound_same : (h g : Home) → h.yard ≡ g.yard → h.number ≡ g.number → h.stored ≡ g.stored → (r : Record) → is_sound h r ≡ is_sound g r
 sound_same h g p q s (journal.Kept c) = refl
 sound_same h g p q s (journal.Made c) = next_same h.yard g.yard h.number g.number h.stored g.stored p q s c
-sound_same h g p q s (journal.Beginning start) = leaves_same h.yard g.yard h.number g.number p q start.engine start.own
+sound_same h g p q s (journal.Beginning holder waits own) = leaves_same h.yard g.yard h.number g.number p q waits.engine own
 sound_same h g p q s (journal.Heard e sign) = ours_same h g p q e
 
 -- what a change of one engine makes of what is stored, whatever is known besides
@@ -161,9 +161,9 @@ apply_same : (h g : Home) → h.yard ≡ g.yard → h.number ≡ g.number → st
 apply_same h g p q same (journal.Kept c) = same
 apply_same h g p q same (journal.Made c) =
     applied_same h g c.engine (λ x. made x c) (λ x. stored_after x c) idle (λ x. refl) (λ x. refl) (ours_same h g p q c.engine) same
-apply_same h g p q same (journal.Beginning start) =
-    applied_same h g start.engine (λ x. begun x start.section start.change start.holder start.count start.own) (λ x. record { mode = mode.Waiting start.section start.change; used = x.used; kept = x.kept; asked = x.asked })
-    (λ x. record { wait = Some start.holder.0; count = start.count; shown = start.own; own = start.own }) (λ x. refl) (λ x. refl) (ours_same h g p q start.engine) same
+apply_same h g p q same (journal.Beginning holder waits own) =
+    applied_same h g waits.engine (λ x. begun x waits.section waits.change holder waits.count own) (λ x. record { mode = mode.Waiting waits.section waits.change; used = x.used; kept = x.kept; asked = x.asked })
+    (λ x. record { wait = Some holder.0; count = waits.count; shown = own; own = own }) (λ x. refl) (λ x. refl) (ours_same h g p q waits.engine) same
 apply_same h g p q same (journal.Heard e sign) = applied_same h g e (λ x. heard x sign) (λ x. x) (λ x. showing x sign) (λ x. refl) (λ x. refl) (ours_same h g p q e) same
 
 -- a record and an input leave a home its yard and its number
@@ -173,7 +173,7 @@ SameName h g = (g.yard ≡ h.yard) × (g.number ≡ h.number)
 apply_name : (h : Home) (r : Record) → SameName h (apply_of h r)
 apply_name h (journal.Kept c) = (refl, refl)
 apply_name h (journal.Made c) = cond_both (is_ours h c.engine) _ _ (SameName h) (λ _. (refl, refl)) (λ _. (refl, refl))
-apply_name h (journal.Beginning start) = cond_both (is_ours h start.engine) _ _ (SameName h) (λ _. (refl, refl)) (λ _. (refl, refl))
+apply_name h (journal.Beginning holder waits own) = cond_both (is_ours h waits.engine) _ _ (SameName h) (λ _. (refl, refl)) (λ _. (refl, refl))
 apply_name h (journal.Heard e sign) = cond_both (is_ours h e) _ _ (SameName h) (λ _. (refl, refl)) (λ _. (refl, refl))
 
 abbrev pub Named : Home → Home × Event → Type 0
@@ -237,7 +237,7 @@ stored_pair b c q = ap (λ (z : Engines). (z, b.home.stored)) q.signs ∙ ap (λ
 home_replay : (c : State) (r : Record) → is_sound c.home r ≡ true → replay_of c r ≡ (with_home c (apply_of c.home r), true)
 home_replay c (journal.Kept d) is = absurd (both_ways false refl is)
 home_replay c (journal.Made d) is = cond-true (is_sound c.home (journal.Made d)) _ _ is
-home_replay c (journal.Beginning start) is = cond-true (is_sound c.home (journal.Beginning start)) _ _ is
+home_replay c (journal.Beginning holder waits own) is = cond-true (is_sound c.home (journal.Beginning holder waits own)) _ _ is
 home_replay c (journal.Heard e sign) is = cond-true (is_sound c.home (journal.Heard e sign)) _ _ is
 
 changes_records : (b : State) (s : Section) (h : Holder) (change : ℕ) (l : Log) → (changes_of b s h change l).records ≡ l.records

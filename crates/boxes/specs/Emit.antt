@@ -39,7 +39,7 @@ found_of c l = sent (said (recorded l (journal.Made c)) (output.GiveBack c.engin
 
 abbrev pub began_of : Home → Engine → Section → ℕ → Engine → ℕ → ℕ → Log → Log
 began_of h e s change whom count own l =
-    tells_of h e own (sent (recorded l (journal.Beginning (record { engine = e; section = s; change = change; holder = whom; count = count; own = own }))) s.keeper (message.Waits (record { engine = e; section = s; count = count; change = change })))
+    tells_of h e own (sent (recorded l (journal.Beginning whom (record { engine = e; section = s; count = count; change = change }) own)) s.keeper (message.Waits (record { engine = e; section = s; count = count; change = change })))
 
 -- what an event gives, in its order
 abbrev pub emit_of : Home → Event → Log → Log

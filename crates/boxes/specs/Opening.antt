@@ -33,7 +33,7 @@ leaves h e own = own % h.yard.engines == e.0
 abbrev pub is_sound : Home → Record → Bool
 is_sound h (journal.Kept c) = false
 is_sound h (journal.Made c) = is_next h c
-is_sound h (journal.Beginning start) = is_ours h start.engine && leaves h start.engine start.own
+is_sound h (journal.Beginning holder waits own) = is_ours h waits.engine && leaves h waits.engine own
 is_sound h (journal.Heard e sign) = is_ours h e
 
 abbrev pub kept_again : State → keeper.State × Verdict → State × Bool
@@ -49,7 +49,7 @@ home_again b r = cond (is_sound b.home r) (with_home b (apply_of b.home r), true
 abbrev pub replay_of : State → Record → State × Bool
 replay_of b (journal.Kept c) = kept_here b c
 replay_of b (journal.Made c) = home_again b (journal.Made c)
-replay_of b (journal.Beginning start) = home_again b (journal.Beginning start)
+replay_of b (journal.Beginning holder waits own) = home_again b (journal.Beginning holder waits own)
 replay_of b (journal.Heard e sign) = home_again b (journal.Heard e sign)
 
 -- the box that a list of records stands for, or which of them couldn't have been written; i: how many went before

@@ -77,13 +77,17 @@ fn tell_to_give_back(call: Call, effects: &mut Effects) -> Result<(), Fault>
 fn say_beginning(home: &Home, beginning: Beginning, effects: &mut Effects) -> Result<(), Fault>
     ensures { OnOk result (log_of effects.new ≡ began_of home.now beginning.engine beginning.section beginning.change beginning.holder beginning.count beginning.own (log_of effects.old)) }
 {
-    effects.record(Record::Beginning(beginning))?;
     let waits = Waits {
         engine: beginning.engine,
         section: beginning.section,
         count: beginning.count,
         change: beginning.change,
     };
+    effects.record(Record::Beginning {
+        holder: beginning.holder,
+        waits,
+        own: beginning.own,
+    })?;
     send(beginning.section.keeper, Message::Waits(waits), effects)?;
     tell_waiters(home, beginning.engine, beginning.own, effects)
 }

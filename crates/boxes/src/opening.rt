@@ -6,7 +6,7 @@ ghost use Rattle.boxes.specs.Opening.{home_again, is_sound, kept_here, opened, o
 
 use crate::signal_box::SignalBox;
 use home::Home;
-use messages::{Beginning, BoxNumber, Call, Record, Yard};
+use messages::{BoxNumber, Call, Record, Yard};
 
 // The index of the first record that couldn't have been written.
 #[derive(Clone, Copy, PartialEq, Eq, Debug)]
@@ -21,8 +21,9 @@ fn is_sound(home: &Home, record: Record) -> bool
     match record {
         Record::Kept(_) => false,
         Record::Made(call) => home.is_next(call),
-        Record::Beginning(Beginning { engine, own, .. }) => {
-            home.is_ours(engine) && own % u64::from(home.yard().engines) == u64::from(engine.0)
+        Record::Beginning { waits, own, .. } => {
+            home.is_ours(waits.engine)
+                && own % u64::from(home.yard().engines) == u64::from(waits.engine.0)
         }
         Record::Heard { engine, sign: _ } => home.is_ours(engine),
     }
@@ -57,7 +58,7 @@ impl SignalBox {
     {
         match record {
             Record::Kept(call) => self.replay_kept(call),
-            Record::Made(_) | Record::Beginning(_) | Record::Heard { .. } => self.replay_ours(
+            Record::Made(_) | Record::Beginning { .. } | Record::Heard { .. } => self.replay_ours(
                 record,
             ),
         }

@@ -78,5 +78,5 @@ heard_of h e sign = if_ours h e (λ x. heard x sign)
 abbrev pub apply_of : Home → Record → Home
 apply_of h (journal.Kept c) = h
 apply_of h (journal.Made c) = made_of h c
-apply_of h (journal.Beginning start) = begun_of h start.engine start.section start.change start.holder start.count start.own
+apply_of h (journal.Beginning holder waits own) = begun_of h waits.engine waits.section waits.change holder waits.count own
 apply_of h (journal.Heard e sign) = heard_of h e sign

@@ -3,7 +3,7 @@ ghost use Rattle.std.specs.Prelude.{◌≡◌, ◌<◌};
 ghost use Rattle.home.specs.Home.{fresh_home, is_home, is_ours, IsState, with, made_of, apply_of, Recorded};
 
 use engine_state::{Known, Mode, Places, State, Stored};
-use messages::{BoxNumber, Call, Engine, Record, Refusal, Section, Yard};
+use messages::{Beginning, BoxNumber, Call, Engine, Record, Refusal, Section, Yard};
 use signs::table::Engines;
 
 // That an engine said that it waits, by its beginning `count`, for a section that one of ours holds.
@@ -109,7 +109,17 @@ impl Home {
         match entry {
             Record::Kept(_) => {}
             Record::Made(call) => self.record_made(call),
-            Record::Beginning(start) => self.record(start.engine, |state| state.begun(start)),
+            Record::Beginning { holder, waits, own } => {
+                let start = Beginning {
+                    engine: waits.engine,
+                    section: waits.section,
+                    change: waits.change,
+                    holder,
+                    count: waits.count,
+                    own,
+                };
+                self.record(start.engine, |state| state.begun(start))
+            }
             Record::Heard { engine, sign } => self.record(engine, |state| state.heard(sign)),
         }
     }

@@ -62,7 +62,7 @@ record_of (event.Had e s) = None
 record_of event.Closed = None
 record_of (event.Called c) = Some (journal.Made c)
 record_of (event.Found c) = Some (journal.Made c)
-record_of (event.Began start) = Some (journal.Beginning (record { engine = start.engine; section = start.section; change = start.change; holder = start.holder; count = start.count; own = start.own }))
+record_of (event.Began start) = Some (journal.Beginning start.holder (record { engine = start.engine; section = start.section; count = start.count; change = start.change }) start.own)
 record_of (event.Heard e s) = Some (journal.Heard e s)
 record_of (event.Noted telling) = None
 

@@ -24,13 +24,13 @@ act_size act.GiveUp = refl
 pub size_is : (r : Record) (rest : List ℕ) → size_of (get_or (record_bytes r ++ rest) 0 0) ≡ Some (length (record_bytes r))
 size_is (journal.Kept c) rest = act_size c.act
 size_is (journal.Made c) rest = refl
-size_is (journal.Beginning b) rest = refl
+size_is (journal.Beginning holder waits own) rest = refl
 size_is (journal.Heard e s) rest = refl
 
 pub some_bytes : (r : Record) → 1 ≤ length (record_bytes r)
 some_bytes (journal.Kept c) = omega arith
 some_bytes (journal.Made c) = omega arith
-some_bytes (journal.Beginning b) = omega arith
+some_bytes (journal.Beginning holder waits own) = omega arith
 some_bytes (journal.Heard e s) = omega arith
 
 pub short_lt : (xs : List ℕ) (n : ℕ) → 1 ≤ length xs → size_of (get_or xs 0 0) ≡ Some n → Short xs → length xs < n

@@ -34,8 +34,8 @@ pub record_back : (y : Yard) (r : Record) → RecordIn y r → record_of y (reco
 record_back y (journal.Kept c) i =
     kept_kind y c.act (c.engine.0 ∷ two c.section ++ four c.number) ∙ ap (λ (o : Option Call). and_then o (λ x. Some (journal.Kept x))) (whole_back y c i)
 record_back y (journal.Made c) i = ap (λ (o : Option Call). and_then o (λ x. Some (journal.Made x))) (whole_back y c i)
-record_back y (journal.Beginning b) i =
-    rw (engine_back y b.engine i.0, section_back y b.section i.1, engine_back y b.holder i.3, four_back b.change i.2, four_back b.count i.4, eight_back b.own i.5)
+record_back y (journal.Beginning holder waits own) i =
+    rw (engine_back y waits.engine i.0, section_back y waits.section i.1, engine_back y holder i.3, four_back waits.change i.2, four_back waits.count i.4, eight_back own i.5)
 record_back y (journal.Heard e s) i = rw (engine_back y e i.0, eight_back s i.1)
 
 -- a record that is in range and is written so

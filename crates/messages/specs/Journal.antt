@@ -24,7 +24,7 @@ whole_call y xs = unless (nat_le 1 (length xs)) (and_then (act_of (slice_index x
 
 abbrev pub beginning_of : Yard → List ℕ → Option Record
 beginning_of y xs = unless (length xs == 20) (and_then (engine_of y (slice_index xs 0)) (λ e. and_then (section_of y (slice_index xs 1) (slice_index xs 2)) (λ s.
-    and_then (engine_of y (slice_index xs 7)) (λ h. Some (journal.Beginning (record { engine = e; section = s; change = four_at xs 3; holder = h; count = four_at xs 8; own = eight_at xs 12 }))))))
+    and_then (engine_of y (slice_index xs 7)) (λ h. Some (journal.Beginning h (record { engine = e; section = s; count = four_at xs 8; change = four_at xs 3 }) (eight_at xs 12))))))
 
 abbrev pub heard_of : Yard → List ℕ → Option Record
 heard_of y xs = unless (length xs == 9) (and_then (engine_of y (slice_index xs 0)) (λ e. Some (journal.Heard e (eight_at xs 1))))

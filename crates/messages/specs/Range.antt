@@ -57,7 +57,7 @@ MessageIn y (message.Waits w) = EngineIn y w.engine × SectionIn y w.section × 
 abbrev pub RecordIn : Yard → Record → Type 0
 RecordIn y (journal.Kept c) = CallIn y c
 RecordIn y (journal.Made c) = CallIn y c
-RecordIn y (journal.Beginning b) = EngineIn y b.engine × SectionIn y b.section × (b.change < 2 ^ 32) × EngineIn y b.holder × (b.count < 2 ^ 32) × (b.own < 2 ^ 64)
+RecordIn y (journal.Beginning holder waits own) = EngineIn y waits.engine × SectionIn y waits.section × (waits.change < 2 ^ 32) × EngineIn y holder × (waits.count < 2 ^ 32) × (own < 2 ^ 64)
 RecordIn y (journal.Heard e s) = EngineIn y e × (s < 2 ^ 64)
 
 -- a yard of 1 to 16 boxes and 1 to 64 engines

@@ -74,5 +74,5 @@ bytes_of (message.Waits w) = 12 ∷ w.engine.0 ∷ two w.section ++ (four w.coun
 abbrev pub record_bytes : Record → List ℕ
 record_bytes (journal.Kept c) = call_bytes c
 record_bytes (journal.Made c) = 10 ∷ call_bytes c
-record_bytes (journal.Beginning b) = 8 ∷ b.engine.0 ∷ two b.section ++ (four b.change ++ (b.holder.0 ∷ four b.count ++ eight b.own))
+record_bytes (journal.Beginning holder waits own) = 8 ∷ waits.engine.0 ∷ two waits.section ++ (four waits.change ++ (holder.0 ∷ four waits.count ++ eight own))
 record_bytes (journal.Heard e s) = 9 ∷ e.0 ∷ eight s

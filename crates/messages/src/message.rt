@@ -54,11 +54,12 @@ pub struct Change {
 }
 
 // The sign that `by` shows, told to `to`, which waits for it by its beginning `count`.
+// The two engines stand side by side: so a sign takes 16 bytes, and a message 24.
 #[derive(Clone, Copy, PartialEq, Eq)]
 pub struct Sign {
     pub to: Engine,
-    pub count: u32,
     pub by: Engine,
+    pub count: u32,
     pub sign: u64,
 }
 
@@ -105,7 +106,16 @@ pub enum Record {
     Kept(Call),
     // A call that the engine's home made.
     Made(Call),
-    Beginning(Beginning),
+    // A beginning to wait: whom the engine waits for, what the section's box is told of it, and the own sign it gave.
+    // Fields, and no struct of them with the sign in it: behind the tag they take 24 bytes in all, and such a struct 32. A box holds all records of its file while it opens.
+    Beginning {
+        holder: Engine,
+        waits: Waits,
+        own: u64,
+    },
     // A sign that `engine` heard and shows.
-    Heard { engine: Engine, sign: u64 },
+    Heard {
+        engine: Engine,
+        sign: u64,
+    },
 }

@@ -41,7 +41,7 @@ if_blank h e x false q b = b
 apply_blank : (h : Home) (r : Record) → Blank h → Blank (apply_of h r)
 apply_blank h (journal.Kept c) b = b
 apply_blank h (journal.Made c) b = if_blank h c.engine _ (is_ours h c.engine) refl b
-apply_blank h (journal.Beginning start) b = if_blank h start.engine _ (is_ours h start.engine) refl b
+apply_blank h (journal.Beginning holder waits own) b = if_blank h waits.engine _ (is_ours h waits.engine) refl b
 apply_blank h (journal.Heard e s) b = if_blank h e _ (is_ours h e) (b.0 e.0) b
 
 kept_blank : (b : State) (c : Call) (t : Bool) → Blank b.home → Blank (cond {A = State × Bool} t (with_keeper b (call_of b.keeper c).0, used_up (call_of b.keeper c).1) (b, false)).0.home
@@ -55,7 +55,7 @@ home_blank b r false k = k
 replay_blank : (b : State) (r : Record) → Blank b.home → Blank (replay_of b r).0.home
 replay_blank b (journal.Kept c) k = kept_blank b c (eqb c.section.keeper.0 b.home.number.0) k
 replay_blank b (journal.Made c) k = home_blank b (journal.Made c) (is_sound b.home (journal.Made c)) k
-replay_blank b (journal.Beginning start) k = home_blank b (journal.Beginning start) (is_sound b.home (journal.Beginning start)) k
+replay_blank b (journal.Beginning holder waits own) k = home_blank b (journal.Beginning holder waits own) (is_sound b.home (journal.Beginning holder waits own)) k
 replay_blank b (journal.Heard e s) k = home_blank b (journal.Heard e s) (is_sound b.home (journal.Heard e s)) k
 
 same_ok : {b c : State} → ◌≡◌ {A = Result State ℕ} (Ok b) (Ok c) → b ≡ c

@@ -37,7 +37,7 @@ module _ (y : sizes.Yard) (bs : Boxes) (z : model.Yard) (n : ℕ) (b : Box) (in-
       (h.1.0, h.2)
   emit_going l (event.Began start) g h =
       tells_going y bs z n b in-yard start.engine start.own h.0 h.2 (held start.engine) _
-      (going_said y bs z n b (recorded l (journal.Beginning (record { engine = start.engine; section = start.section; change = start.change; holder = start.holder; count = start.count; own = start.own }))) (output.Send start.section.keeper (message.Waits (record { engine = start.engine; section = start.section; count = start.count; change = start.change })))
-      (going-recorded y bs z n b l (journal.Beginning (record { engine = start.engine; section = start.section; change = start.change; holder = start.holder; count = start.count; own = start.own })) g) (tt, h.1))
+      (going_said y bs z n b (recorded l (journal.Beginning start.holder (record { engine = start.engine; section = start.section; count = start.count; change = start.change }) start.own)) (output.Send start.section.keeper (message.Waits (record { engine = start.engine; section = start.section; count = start.count; change = start.change })))
+      (going-recorded y bs z n b l (journal.Beginning start.holder (record { engine = start.engine; section = start.section; count = start.count; change = start.change }) start.own) g) (tt, h.1))
   emit_going l (event.Heard e sign) g h = tells_going y bs z n b in-yard e sign h.0 h.1 (held e) _ (going-recorded y bs z n b l (journal.Heard e sign) g)
   emit_going l (event.Noted telling) g h = going_told y bs z n b l _ telling.to telling.count telling.by telling.sign (number_of h.0) g h.1 h.2 h.3

@@ -6,7 +6,7 @@ ghost use Rattle.messages.specs.Written.{encoded};
 
 use crate::decoder::{eight_at, four_at, whole_call};
 use crate::encoded::Encoded;
-use crate::message::{Beginning, Record};
+use crate::message::{Record, Waits};
 use crate::records::{First, Replay, Unread};
 use crate::yard::Yard;
 use std::alloc::Global;
@@ -18,14 +18,14 @@ pub fn encode_record(record: Record) -> Encoded
     match record {
         Record::Kept(call) => out.call(call),
         Record::Made(call) => out.byte(10).call(call),
-        Record::Beginning(beginning) => {
+        Record::Beginning { holder, waits, own } => {
             out.byte(8)
-                .byte(beginning.engine.0)
-                .section(beginning.section)
-                .four(beginning.change)
-                .byte(beginning.holder.0)
-                .four(beginning.count)
-                .eight(beginning.own)
+                .byte(waits.engine.0)
+                .section(waits.section)
+                .four(waits.change)
+                .byte(holder.0)
+                .four(waits.count)
+                .eight(own)
         }
         Record::Heard { engine, sign } => out.byte(9).byte(engine.0).eight(sign),
     }
@@ -97,14 +97,13 @@ fn beginning(yard: Yard, rest: &[u8]) -> Option<Record>
     let change = four_at(rest, 3);
     let count = four_at(rest, 8);
     let own = eight_at(rest, 12);
-    Some(Record::Beginning(Beginning {
+    let waits = Waits {
         engine,
         section,
-        change,
-        holder,
         count,
-        own,
-    }))
+        change,
+    };
+    Some(Record::Beginning { holder, waits, own })
 }
 
 fn heard(yard: Yard, rest: &[u8]) -> Option<Record>
