@@ -19,7 +19,7 @@ unfolding each
 each_more f n x = rw add-one refl
 
 -- a turn of a loop: what the turn gave, from what the turns before gave
-turn : {A : Type 0} (f : ℕ → A → A) (n : ℕ) (x before after : A) → before ≡ each f n x → after ≡ f n before → after ≡ each f (n + 1) x
+pub turn : {A : Type 0} (f : ℕ → A → A) (n : ℕ) (x before after : A) → before ≡ each f n x → after ≡ f n before → after ≡ each f (n + 1) x
 turn f n x before after p q = q ∙ (ap (f n) p ∙ sym (each_more f n x))
 
 -- the numbers below n, each made to what it numbers

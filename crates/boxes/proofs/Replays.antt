@@ -14,7 +14,7 @@ first_of r rs i b c ok q =
     let two : (replay_of b r).0 ≡ c = ap (λ (p : State × Bool). p.0) (sym q) in
     rw (one, two) refl
 
-one_more : (rs : List Record) (i : ℕ) (d : Record) (b c : State) (ok : Bool) → i < length rs → ◌≡◌ {A = State × Bool} (c, ok) (replay_of b (get_or rs i d)) →
+pub one_more : (rs : List Record) (i : ℕ) (d : Record) (b c : State) (ok : Bool) → i < length rs → ◌≡◌ {A = State × Bool} (c, ok) (replay_of b (get_or rs i d)) →
     open_from i (drop i rs) b ≡ cond ok (open_from (i + 1) (drop (i + 1) rs) c) (Err i)
 one_more rs i d b c ok h q = rw (drop-cons rs i d) (first_of (get_or rs i d) (drop (suc i) rs) i b c ok q ∙ rw add-one refl)
 

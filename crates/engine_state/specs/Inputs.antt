@@ -41,10 +41,10 @@ is_engine (Some x) e = x.0 == e.0
 abbrev pub refuse : State → Refusal → State × Event
 refuse x r = (x, event.Refused r)
 
--- what a step gave; where it turned the input away, nothing changes
-abbrev pub told : State → Result (State × Event) Refusal → State × Event
-told x (Err r) = refuse x r
-told x (Ok p) = p
+-- what is told of a step that turned the input away or not
+abbrev pub told : Result Event Refusal → Event
+told (Err r) = event.Refused r
+told (Ok e) = e
 
 abbrev pub begun_with : State → Engine → Section → ℕ → Engine → Result signs.Engine sign_refusal.Refusal → State × Event
 begun_with x e s change whom (Err r) = refuse x (refused_for r)

@@ -21,23 +21,24 @@ fn refused_for(refusal: signs::Refusal) -> Refusal
     }
 }
 
-impl State {
-    // What came of a step; where it turned the input away, nothing changed.
-    fn told(self, step: Result<(State, Event), Refusal>) -> (State, Event)
-        ensures { result ≡ told self step }
-    {
-        step.unwrap_or_else(|refusal| (self, Event::Refused(refusal)))
-    }
+// What is told of a step that turned the input away or not.
+fn told(step: Result<Event, Refusal>) -> Event
+    ensures { result ≡ told step }
+{
+    step.unwrap_or_else(|refusal| Event::Refused(refusal))
+}
 
+// A step changes the state in its place, and where it turns the input away it leaves it as it is: a state is some hundred bytes, and is not handed from step to step.
+impl State {
     // Begins to wait for `whom`, which has the section since that change, in a yard of so many engines.
     fn begin(
-        self,
+        &mut self,
         engine: Engine,
         engines: u8,
         change: Change,
         whom: Engine,
-    ) -> Result<(State, Event), Refusal>
-        ensures { told self result ≡ begin_at self engine engines change.section change.change whom }
+    ) -> Result<Event, Refusal>
+        ensures { (self.new, told result) ≡ begin_at self.old engine engines change.section change.change whom }
     {
         let after = self
             .signs
@@ -51,21 +52,22 @@ impl State {
             count: after.count,
             own: after.own,
         };
-        Ok((self.begun(start), Event::Began(start)))
+        *self = self.begun(start);
+        Ok(Event::Began(start))
     }
 
     // The answer to an open take.
-    fn taken(self, call: Call, engines: u8, answer: Answer) -> Result<(State, Event), Refusal>
-        ensures { told self result ≡ taken_by self call engines answer.reply answer.holder answer.change }
+    fn taken(&mut self, call: Call, engines: u8, answer: Answer) -> Result<Event, Refusal>
+        ensures { (self.new, told result) ≡ taken_by self.old call engines answer.reply answer.holder answer.change }
     {
         match (answer.reply, answer.holder) {
-            (Reply::Done, _) => Ok((
-                self.knowing(Known::Had),
-                Event::Had {
+            (Reply::Done, _) => {
+                self.known = Known::Had;
+                Ok(Event::Had {
                     engine: call.engine,
                     section: call.section,
-                },
-            )),
+                })
+            }
             (Reply::Waits, Some(whom)) if whom != call.engine => {
                 let change = Change {
                     section: call.section,
@@ -76,28 +78,31 @@ impl State {
             }
             (Reply::Waits, _) => Err(Refusal::WrongCall),
             (Reply::Refused(Refusal::Exhausted), _) => Err(Refusal::Exhausted),
-            (Reply::Refused(refusal), _) => Ok((
-                self.knowing(Known::Closed),
-                Event::RefusedBy(refusal),
-            )),
+            (Reply::Refused(refusal), _) => {
+                self.known = Known::Closed;
+                Ok(Event::RefusedBy(refusal))
+            }
         }
     }
 
     // The answer to an open free or give up.
-    fn ended(self, call: Call, answer: Answer) -> Result<(State, Event), Refusal>
-        ensures { told self result ≡ ended_by self call answer.reply answer.holder }
+    fn ended(&mut self, call: Call, answer: Answer) -> Result<Event, Refusal>
+        ensures { (self.new, told result) ≡ ended_by self.old call answer.reply answer.holder }
     {
         match answer.reply {
-            Reply::Done => Ok((self.knowing(Known::Closed), Event::Closed)),
+            Reply::Done => {
+                self.known = Known::Closed;
+                Ok(Event::Closed)
+            }
             Reply::Waits => Err(Refusal::WrongCall),
             Reply::Refused(Refusal::Exhausted) => Err(Refusal::Exhausted),
             Reply::Refused(refusal) => {
-                let known = if answer.holder == Some(call.engine) {
+                self.known = if answer.holder == Some(call.engine) {
                     Known::Had
                 } else {
                     Known::Closed
                 };
-                Ok((self.knowing(known), Event::RefusedBy(refusal)))
+                Ok(Event::RefusedBy(refusal))
             }
         }
     }
@@ -109,8 +114,8 @@ impl State {
         self.open_call(engine).filter(|call| call.section.keeper == from && call.number == number)
     }
 
-    fn answer_to(self, call: Call, engines: u8, answer: Answer) -> Result<(State, Event), Refusal>
-        ensures { told self result ≡ answer_to self call engines answer.reply answer.holder answer.change call.act }
+    fn answer_to(&mut self, call: Call, engines: u8, answer: Answer) -> Result<Event, Refusal>
+        ensures { (self.new, told result) ≡ answer_to self.old call engines answer.reply answer.holder answer.change call.act }
     {
         match call.act {
             Act::Take => self.taken(call, engines, answer),
@@ -121,7 +126,7 @@ impl State {
     // An answer of the box `from` to the call `number`: with the engine, five things that come from five places, and together nowhere else.
     #[tactic(auto, unfolding(crate::specs::Inputs::answer_at))]
     pub fn answer(
-        self,
+        mut self,
         from: BoxNumber,
         engine: Engine,
         engines: u8,
@@ -130,11 +135,11 @@ impl State {
     ) -> (State, Event)
         ensures { result ≡ answer_at self from engine engines number answer.reply answer.holder answer.change }
     {
-        self.told(
-            self.awaited(from, engine, number)
-                .ok_or(Refusal::WrongCall)
-                .and_then(|call| self.answer_to(call, engines, answer)),
-        )
+        let step = match self.awaited(from, engine, number) {
+            Some(call) => self.answer_to(call, engines, answer),
+            None => Err(Refusal::WrongCall),
+        };
+        (self, told(step))
     }
 
     // Is it a later change of the section that is waited for.
@@ -146,77 +151,73 @@ impl State {
     }
 
     // What is waited for has passed on.
-    fn passed_to(
-        self,
-        engine: Engine,
-        engines: u8,
-        change: Change,
-    ) -> Result<(State, Event), Refusal>
-        ensures { told self result ≡ passed_to self engine engines change.section change.change change.holder }
+    fn passed_to(&mut self, engine: Engine, engines: u8, change: Change) -> Result<Event, Refusal>
+        ensures { (self.new, told result) ≡ passed_to self.old engine engines change.section change.change change.holder }
     {
         match change.holder {
-            None => Ok((self, Event::PassedOver)),
-            Some(whom) if whom == engine => Ok((
-                self.knowing(Known::Had),
-                Event::Had {
+            None => Ok(Event::PassedOver),
+            Some(whom) if whom == engine => {
+                self.known = Known::Had;
+                Ok(Event::Had {
                     engine,
                     section: change.section,
-                },
-            )),
+                })
+            }
             Some(whom) => self.begin(engine, engines, change, whom),
         }
     }
 
     // A section has passed on, by that change.
     #[tactic(auto, unfolding(crate::specs::Inputs::change_at))]
-    pub fn change_at(self, engine: Engine, engines: u8, change: Change) -> (State, Event)
+    pub fn change_at(mut self, engine: Engine, engines: u8, change: Change) -> (State, Event)
         ensures { result ≡ change_at self engine engines change.section change.holder change.change }
     {
-        if self.is_later(change) {
-            self.told(self.passed_to(engine, engines, change))
-        } else {
-            (self, Event::PassedOver)
+        if !self.is_later(change) {
+            return (self, Event::PassedOver);
         }
+        let step = self.passed_to(engine, engines, change);
+        (self, told(step))
     }
 
     // Its own sign has come round: it gives up the section that it waits for.
-    fn found(self, engine: Engine, section: Section) -> Result<(State, Event), Refusal>
-        ensures { told self result ≡ found_at self engine section }
+    fn found(&mut self, engine: Engine, section: Section) -> Result<Event, Refusal>
+        ensures { (self.new, told result) ≡ found_at self.old engine section }
     {
         let call = self.next_call(Act::GiveUp, engine, section)?;
-        Ok((self.made(call), Event::Found(call)))
+        *self = self.made(call);
+        Ok(Event::Found(call))
     }
 
     // What comes of a sign while the wait for a section stands.
-    fn listened(self, section: Section, sign: Sign) -> Result<(State, Event), Refusal>
-        ensures { told self result ≡ listened self sign.to section (listen_of self.signs sign.by.0 sign.count sign.sign) }
+    fn listened(&mut self, section: Section, sign: Sign) -> Result<Event, Refusal>
+        ensures { (self.new, told result) ≡ listened self.old sign.to section (listen_of self.old.signs sign.by.0 sign.count sign.sign) }
     {
         let (_, heard) = self
             .signs
             .listen(sign.by.0, sign.count, sign.sign)
             .map_err(refused_for)?;
         match heard {
-            signs::Heard::PassedOver => Ok((self, Event::PassedOver)),
-            signs::Heard::TellOn(shown) => Ok((
-                self.heard(shown),
-                Event::Heard {
+            signs::Heard::PassedOver => Ok(Event::PassedOver),
+            signs::Heard::TellOn(shown) => {
+                self.signs.shown = shown;
+                Ok(Event::Heard {
                     engine: sign.to,
                     sign: shown,
-                },
-            )),
+                })
+            }
             signs::Heard::Found => self.found(sign.to, section),
         }
     }
 
     // A sign told to the engine as one that waits for the teller.
     #[tactic(auto, unfolding(crate::specs::Inputs::sign_at))]
-    pub fn sign(self, sign: Sign) -> (State, Event)
+    pub fn sign(mut self, sign: Sign) -> (State, Event)
         ensures { result ≡ sign_at self sign.to sign.count sign.by sign.sign }
     {
-        self.told(
-            self.wait()
-                .ok_or(Refusal::Stale)
-                .and_then(|wait| self.listened(wait.section, sign)),
-        )
+        let step = match self.wait() {
+            Some(wait) => self.listened(wait.section, sign),
+            None => Err(Refusal::Stale),
+        };
+        (self, told(step))
     }
 }

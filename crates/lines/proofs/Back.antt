@@ -14,7 +14,7 @@ use Rattle.lines.specs.Digits.{bytes_in, decimal, digit_of, hex_digit, hex_of, h
 use Rattle.lines.specs.Lines.{DriverRead, ReadsBack, free_line, is_at, is_free, is_second, is_take, line_of, message, message_in, message_line, place_of, sent_of, take_line, wish_of, wish_text}
 
 -- a number of two digits
-decimal_two : (n : ℕ) → 10 ≤ n → decimal n ≡ (48 + n / 10) ∷ (48 + n % 10) ∷ []
+pub decimal_two : (n : ℕ) → 10 ≤ n → decimal n ≡ (48 + n / 10) ∷ (48 + n % 10) ∷ []
 decimal_two n h = grind (arith, nat_tests)
 
 pub digit_back : (n : ℕ) → n < 16 → hex_value (hex_digit n) ≡ Some n

@@ -10,7 +10,7 @@ use Rattle.ring_search.specs.declared.Ring.{Ring}
 use Rattle.ring_search.specs.Search.{Judged, model, more, ring_at, rings_below}
 
 module _ {E : Type 0} (same : E → E → Bool) (whom : E → Option E) (first : E) where
-  chase_on : (left : ℕ) (at : E) (done : List E) → 0 < left →
+  pub chase_on : (left : ℕ) (at : E) (done : List E) → 0 < left →
       chase same whom first left at done ≡ follow same first (done ++ at ∷ []) (λ next. chase same whom first (left - 1) next (done ++ at ∷ [])) (whom at)
   unfolding chase
   chase_on zero at done h = absurd (omega arith)

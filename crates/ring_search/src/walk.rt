@@ -39,3 +39,37 @@ pub fn way_back<W: Waits>(
     }
     Ok(None)
 }
+
+#[cfg(test)]
+mod tests {
+    use super::*;
+    use crate::Upward;
+    use signs::Engine;
+    use signs::table::Engines;
+
+    // 0 waits for 1, 1 for 2, 2 for 0, and 3 for 0.
+    #[test]
+    fn a_way_comes_back_or_not(rt: HostRuntime) {
+        let mut table = Engines::new();
+        for (at, whom) in [(0u8, 1u8), (1, 2), (2, 0), (3, 0)] {
+            let waits = Engine {
+                wait: Some(whom),
+                count: 1,
+                shown: 5,
+                own: 5,
+            };
+            assert!(rt; table.put(at, waits).is_ok(), "it is one of sixty-four");
+        }
+        let waits = Upward {
+            table: &table,
+            first: 0,
+        };
+        let back =
+            matches!(way_back(rt.alloc(), &waits, 0), Ok(Some(way)) if way.as_slice() == [0, 1, 2].as_slice());
+        assert!(rt; back, "there is memory for three engines");
+        assert!(rt;
+            matches!(way_back(rt.alloc(), &waits, 3), Ok(None)),
+            "who waits for a ring stands in none"
+        );
+    }
+}

@@ -96,9 +96,11 @@ impl Station {
         ensures { IfOk result (λ said. Restarts yard number (station_of self.old) (station_of self.new, said_of said)) }
     {
         let records = self.read_again(yard, heap)?;
-        self.state = SignalBox::open(yard, number, records.as_slice()).map_err(
-            |unwritten| OpenFault::Damaged(unwritten.index),
-        )?;
+        // By a match: `map_err` would hand the whole box on once more.
+        match SignalBox::open(yard, number, records.as_slice()) {
+            Ok(state) => self.state = state,
+            Err(unwritten) => return Err(OpenFault::Damaged(unwritten.index)),
+        }
         self.remind(heap)
     }
 }
