@@ -36,7 +36,8 @@ fn hex(mut out: Buffer, message: &[u8]) -> Option<Buffer>
     ensures { IsSomeAnd result (λ more. bytes_of more ≡ bytes_of out ++ hex_of message.now) }
 {
     for b in message {
-        out = out.push(hex_digit(*b / 16))?.push(hex_digit(*b % 16))?;
+        out.add(hex_digit(*b / 16))?;
+        out.add(hex_digit(*b % 16))?;
     }
     Some(out)
 }

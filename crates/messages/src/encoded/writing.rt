@@ -34,6 +34,19 @@ impl<const N: usize> Bytes<N> {
         Some(self.byte(b))
     }
 
+    // One byte more, in place: where many are written, they are not handed on whole for each. None, and nothing changes, where there is no room for it.
+    pub fn add(&mut self, b: u8) -> Option<()>
+        ensures { MatchOption result ((self.old.used ≡ N) × (self.new ≡ self.old)) (λ _. (encoded self.new ≡ encoded self.old ++ (b ∷ [])) × (self.new.used ≡ self.old.used + 1)) }
+    {
+        let at = self.used;
+        if at >= N {
+            return None;
+        }
+        self.bytes[at] = b;
+        self.used = at + 1;
+        Some(())
+    }
+
     // This and those below ask for the room of what they write, each its own.
     pub(crate) fn byte(mut self, b: u8) -> Self
         requires { self.used < N }
