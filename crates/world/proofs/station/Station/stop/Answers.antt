@@ -10,7 +10,7 @@ pub returns : goal.returns
 returns c =
     let r = c.in_ok-records.ensures.records in
     IfOk-weaker c.remind.result _ _
-    (λ said e. restarted c.args.yard c.args.number (station_of c.args.self.now) (vec_items c.in_ok-records.records) c.as_slice.result.now (held_by c.read_again.new.self.file) c.in_ok-self.field-0 _
+    (λ said e. restarted c.args.yard c.args.number (station_of c.args.self.now) (vec_items c.in_ok-records.records) c.as_slice.result.now (held_by c.read_again.new.self.file) c.in-Ok.state _
     (r.0, r.1) r.2
     c.as_slice.ensures.value (search rules) e)
     c.remind.ensures
