@@ -54,7 +54,16 @@ impl Sections {
     pub fn waits(&self, engine: u8) -> bool
         ensures { result ≡ waits engine (table_of self.now) }
     {
-        self.rows.iter().any(|row| row.queue.has(engine))
+        if engine >= ENGINES {
+            return false;
+        }
+        // By index: with an iterator the loop is laid out for each of the 64 rows, and each asks for the engine's bit by itself.
+        for place in 0..self.rows.len() {
+            if self.rows[place].queue.has(engine) {
+                return true;
+            }
+        }
+        false
     }
 
     // An engine takes a free section, or waits for one that another has.
